@@ -1,0 +1,8 @@
+//! The language of transactions: its programs as trees, what they mean, and the limits that they keep.
+#![tactic(auto)]
+
+mod evaluation;
+mod tree;
+
+pub use evaluation::{EvalFault, eval};
+pub use tree::{BinOp, Block, Expr, Stmt};

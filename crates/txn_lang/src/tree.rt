@@ -1,0 +1,51 @@
+use morty_base::List;
+use sqlite_items::Boxed as Box;
+
+/// An operator between two operands.
+#[derive(Clone, Copy, Debug, PartialEq, Eq)]
+pub enum BinOp {
+    Add,
+    Sub,
+    Mul,
+    Div,
+    Rem,
+    Eq,
+    Ne,
+    Lt,
+    Le,
+    Gt,
+    Ge,
+    And,
+    Or,
+}
+
+/// An expression. A number that is written is not negative, and a local stands by its number.
+#[derive(Debug, Drop)]
+pub enum Expr {
+    Num(i64),
+    Local(u16),
+    Neg(Box<Expr>),
+    Not(Box<Expr>),
+    Bin(BinOp, Box<Expr>, Box<Expr>),
+}
+
+/// A statement: `Let` has the local and its value, `Read` the local, the table and the index, `Write` the table,
+/// the index and the value, and `If` the block for a number other than 0 and the block for 0.
+#[cycle(tree)]
+#[derive(Debug, Drop)]
+pub enum Stmt {
+    Let(u16, Expr),
+    Read(u16, u16, Expr),
+    Write(u16, Expr, Expr),
+    Print(Expr),
+    If(Expr, Block, Block),
+    Repeat(u32, Block),
+    Abort,
+}
+
+/// Statements one after another.
+#[cycle(tree)]
+#[derive(Debug, Drop)]
+pub struct Block {
+    pub stmts: List<Stmt>,
+}
