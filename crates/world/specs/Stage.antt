@@ -1,0 +1,77 @@
+-- The stages of the run: whose turn ends each, what content is under way, and how far it is from the end.
+use Rattle.std.specs.Prelude.{◌≡◌, ℕ, ⊤, Bool, true, false, if◌then◌else◌, List, [], ◌∷◌, ℤ, ◌+ℤ◌}
+use Rattle.morty_base.specs.declared.names.Ending.TheVariants.{Done, Overflow}
+use Rattle.msg.specs.declared.Content.{Content}
+use Rattle.txn_lang.specs.Value.{fits_word}
+use Rattle.world.specs.declared.script.FirstScript.{FirstScript}
+use Rattle.world.specs.declared.stage.Slot.{Slot}
+use Rattle.world.specs.declared.stage.Slot.TheVariants.{Client, Replica}
+use Rattle.world.specs.declared.stage.Stage.{Stage}
+use Rattle.world.specs.declared.stage.Stage.TheVariants.{Unbegun, Begun, Asking, Answering, Answered, Putting, Preparing, Voted, Decided, Committed}
+use Rattle.msg.specs.declared.Write.{Write}
+use Rattle.report.specs.declared.rows.CommitRow.{CommitRow}
+use Rattle.world.specs.Script.{cell, version_of}
+use Rattle.world.specs.Rows.{read_first}
+
+-- what the client prepares: the sum is written, unless it has no 64-bit value
+unfoldable pub content_of : FirstScript → Content
+content_of s =
+    if fits_word (s.value +ℤ s.add)
+    then record { reads = read_first (record { key = cell s; value = s.value }) ∷ []; writes = record { key = cell s; value = s.value +ℤ s.add } ∷ []; out = s.value ∷ []; ending = Done }
+    else record { reads = read_first (record { key = cell s; value = s.value }) ∷ []; writes = []; out = []; ending = Overflow }
+
+-- the value of the first write, or another one where there is none
+abbrev pub written_or : ℤ → List Write → ℤ
+written_or value [] = value
+written_or value (w ∷ ws) = w.value
+
+-- the row of the one transaction, where it committed the content
+abbrev pub row_of : FirstScript → Content → CommitRow
+row_of s c = record { exec = record { ver = version_of s; eid = 0 }; txn = 1; attempt = 1; ending = c.ending; reads = c.reads; out = c.out }
+
+-- a content that is under way is what the client prepares
+abbrev pub IsReached : FirstScript → Stage → Type 0
+IsReached s (Putting c) = c ≡ content_of s
+IsReached s (Preparing c) = c ≡ content_of s
+IsReached s (Voted c) = c ≡ content_of s
+IsReached s (Decided c) = c ≡ content_of s
+IsReached s (Committed c) = c ≡ content_of s
+IsReached s _ = ⊤
+
+-- how many steps are left at most
+abbrev pub rank : Stage → ℕ
+rank Unbegun = 9
+rank Begun = 8
+rank Asking = 7
+rank Answering = 6
+rank Answered = 5
+rank (Putting c) = 4
+rank (Preparing c) = 3
+rank (Voted c) = 2
+rank (Decided c) = 1
+rank (Committed c) = 0
+
+abbrev pub is_client : Slot → Bool
+is_client Client = true
+is_client Replica = false
+
+abbrev pub is_replica : Slot → Bool
+is_replica Client = false
+is_replica Replica = true
+
+-- the stage ends by a turn of the slot's node
+abbrev pub waits_for : Stage → Slot → Bool
+waits_for Unbegun slot = is_client slot
+waits_for Begun slot = is_client slot
+waits_for Asking slot = is_replica slot
+waits_for Answering slot = is_client slot
+waits_for Answered slot = is_client slot
+waits_for (Putting c) slot = is_replica slot
+waits_for (Preparing c) slot = is_replica slot
+waits_for (Voted c) slot = is_client slot
+waits_for (Decided c) slot = is_replica slot
+waits_for (Committed c) slot = false
+
+abbrev pub other_of : Slot → Slot
+other_of Client = Replica
+other_of Replica = Client

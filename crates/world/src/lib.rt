@@ -1,0 +1,13 @@
+//! A run of one client, one replica and one transaction that adds to a cell. It is small on purpose: the whole
+//! protocol takes its place.
+#![tactic(auto)]
+
+mod event;
+mod list;
+mod run;
+mod script;
+mod stage;
+
+pub use event::{Event, Pick};
+pub use run::{Run, run_script};
+pub use script::FirstScript;
