@@ -3,4 +3,7 @@ pub mod Value
 pub mod Keys
 pub mod Actions
 pub mod Runs
+pub mod Limits
+pub mod Names
+pub mod Form
 pub mod Program

@@ -2,7 +2,10 @@
 #![tactic(auto)]
 
 mod evaluation;
+mod limits;
+mod program;
 mod tree;
 
 pub use evaluation::{EvalFault, eval};
+pub use program::{Prog, ProgFault, make_prog};
 pub use tree::{BinOp, Block, Expr, Stmt};
