@@ -7,3 +7,4 @@ pub mod Limits
 pub mod Names
 pub mod Form
 pub mod Program
+pub mod Laws
