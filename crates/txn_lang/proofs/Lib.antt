@@ -4,3 +4,4 @@ pub mod Growing
 pub mod Asking
 pub mod Knowing
 pub mod SerialRuns
+pub mod Resuming

@@ -1,12 +1,14 @@
 -- What replays and serial runs have of every program.
-use Rattle.std.specs.Prelude.{◌≡◌, ℕ, ◌≤◌, List, [], ◌∷◌, ◌++◌, map, take, length, reverse, Option, Some, None, IsSome, IsNone, MatchOption, slice_get, ℤ}
+use Rattle.std.specs.Prelude.{◌≡◌, ℕ, ◌+◌, ◌≤◌, List, [], ◌∷◌, ◌++◌, map, take, length, reverse, Option, Some, None, IsSome, IsNone, MatchOption, slice_get, ℤ}
 use Rattle.std.specs.List.{All, IsDistinct}
 use Rattle.morty_base.specs.declared.names.Key.{Key}
 use Rattle.morty_base.specs.declared.names.Ending.{Ending}
 use Rattle.morty_base.specs.Names.{same_key}
 use Rattle.txn_lang.specs.declared.tree.Block.{Block}
+use Rattle.txn_lang.specs.Tree.{commands}
+use Rattle.txn_lang.specs.Actions.{Actions, program_actions}
 use Rattle.txn_lang.specs.Keys.{Entry, entry, found, held}
-use Rattle.txn_lang.specs.Runs.{Run, replay, serial_run}
+use Rattle.txn_lang.specs.Runs.{Run, after_read, run, next_answer, replay, serial_run}
 
 abbrev pub keys_of : List Entry → List Key
 keys_of entries = map (λ e. e.key) entries
@@ -62,3 +64,16 @@ pub record ReplaysSerial (body : Block) (n : ℕ) : Type 0 where
   pub reads_map : (m : List Entry) → All (λ e. held m e.key ≡ e.value) (serial_run body n m).reads
   pub replayed : (m : List Entry) → replay body n (values_of (serial_run body n m).reads) ≡ serial_run body n m
   pub serialised : (m : List Entry) (answers : List ℤ) → (replay body n answers).asks ≡ None → All (λ e. held m e.key ≡ e.value) (replay body n answers).reads → serial_run body n m ≡ replay body n answers
+
+-- a run that stopped to ask, and what was done then
+abbrev pub joined : Run → Run → Run
+joined r s = record { reads = r.reads ++ s.reads; writes = r.writes ++ s.writes; out = r.out ++ s.out; begun = r.begun + s.begun; asks = s.asks; ending = s.ending; known = s.known }
+
+-- what is done after the answer for which actions ask: with it, a replay goes on from where it stopped
+pub record GoesOn (a : Actions) (known : List Entry) (answers : List ℤ) (k : Key) : Type 0 where
+  pub next : ℤ → Actions
+  pub resumed : (x : ℤ) (further : List ℤ) → run next_answer a known (answers ++ x ∷ further) ≡ joined (run next_answer a known answers) (after_read (entry k x) (run next_answer (next x) (entry k x ∷ (run next_answer a known answers).known) further))
+
+-- where a replay asks, it goes on with the answer
+abbrev pub GoesOnWithAnswer : Block → ℕ → Type 0
+GoesOnWithAnswer body n = (answers : List ℤ) (k : Key) → (replay body n answers).asks ≡ Some k → GoesOn (program_actions (commands body) n) [] answers k

@@ -1,7 +1,7 @@
 ghost use Rattle.std.specs.Prelude.{ℕ};
 ghost use Rattle.txn_lang.specs.declared.tree.Block.{Block as BlockValue};
 ghost use Rattle.txn_lang.specs.Runs.{replay};
-ghost use Rattle.txn_lang.specs.Laws.{TakesAnswers, GrowsWithAnswers, ReadsWhatItAsked, AsksOnce, KnowsItsOwn, ReplaysSerial};
+ghost use Rattle.txn_lang.specs.Laws.{TakesAnswers, GrowsWithAnswers, ReadsWhatItAsked, AsksOnce, KnowsItsOwn, GoesOnWithAnswer, ReplaysSerial};
 
 /// A replay is a function of the answers that it takes.
 pub fn replay_takes_answers()
@@ -26,6 +26,11 @@ pub fn replay_asks_once()
 /// What a replay knows of a key is its last own write, else the answer.
 pub fn replay_knows()
     ensures { (body : BlockValue) (n : ℕ) → KnowsItsOwn (replay body n) }
+{}
+
+/// A replay on one more answer does what it did before it asked, and then what follows that answer.
+pub fn replay_goes_on()
+    ensures { (body : BlockValue) (n : ℕ) → GoesOnWithAnswer body n }
 {}
 
 /// A serial run is the replay on the values that it read, and the other way round.
