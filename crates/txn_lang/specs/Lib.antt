@@ -8,3 +8,4 @@ pub mod Names
 pub mod Form
 pub mod Program
 pub mod Laws
+pub mod Examples

@@ -1,6 +1,7 @@
 ghost use Rattle.std.specs.Prelude.{ℕ};
 ghost use Rattle.txn_lang.specs.declared.tree.Block.{Block as BlockValue};
 ghost use Rattle.txn_lang.specs.Runs.{replay};
+ghost use Rattle.txn_lang.specs.Examples.{FiveReads, PayAborts};
 ghost use Rattle.txn_lang.specs.Laws.{TakesAnswers, GrowsWithAnswers, ReadsWhatItAsked, AsksOnce, KnowsItsOwn, GoesOnWithAnswer, ReplaysSerial};
 
 /// A replay is a function of the answers that it takes.
@@ -36,4 +37,10 @@ pub fn replay_goes_on()
 /// A serial run is the replay on the values that it read, and the other way round.
 pub fn replay_is_serial()
     ensures { (body : BlockValue) (n : ℕ) → ReplaysSerial body n }
+{}
+
+/// What two programs do on some answers.
+pub fn worked_programs()
+    ensures five { FiveReads }
+    ensures pay { PayAborts }
 {}
