@@ -1,11 +1,11 @@
 -- What a program does, one action after another.
-use Rattle.std.specs.Prelude.{ℕ, zero, suc, List, Bool, true, false, Result, Ok, Err, ℤ, pos, replicate, slice_set}
+use Rattle.std.specs.Prelude.{ℕ, zero, suc, List, Bool, true, false, Ok, Err, ℤ, pos, replicate, slice_set}
 use Rattle.morty_base.specs.declared.names.Key.{Key}
 use Rattle.morty_base.specs.declared.names.Ending.{Ending}
 use Rattle.morty_base.specs.declared.names.Ending.TheVariants as ending
 use Rattle.txn_lang.specs.declared.evaluation.EvalFault.{EvalFault}
 use Rattle.txn_lang.specs.declared.evaluation.EvalFault.TheVariants.{Overflow, ZeroDivisor}
-use Rattle.txn_lang.specs.Tree.{Term, Command, Let, Read, Write, Print, If, Repeat, Abort, Commands, End, Then}
+use Rattle.txn_lang.specs.Tree.{Command, Let, Read, Write, Print, If, Repeat, Abort, Commands, End, Then}
 use Rattle.txn_lang.specs.Value.{Value, is_true, value}
 use Rattle.txn_lang.specs.Keys.{Entry, entry}
 

@@ -3,4 +3,9 @@ pub mod Value
 pub mod Keys
 pub mod Actions
 pub mod Runs
+pub mod Limits
+pub mod Names
+pub mod Form
 pub mod Program
+pub mod Laws
+pub mod Examples

@@ -1,12 +1,20 @@
 -- A program: the names of its locals and its body.
 use Rattle.std.specs.Prelude.{ℕ, List, [], ◌∷◌, length, ℤ}
 use Rattle.txn_lang.specs.declared.tree.Block.{Block}
+use Rattle.txn_lang.specs.Tree.{commands}
+use Rattle.txn_lang.specs.Limits.{IsWithin}
+use Rattle.txn_lang.specs.Form.{IsWellFormed}
 use Rattle.txn_lang.specs.Keys.{Entry, after_writes}
 use Rattle.txn_lang.specs.Runs.{Run, replay, serial_run, kept}
 
 pub record Program : Type 0 where
   pub names : List (List ℕ)
   pub body : Block
+
+-- what each program keeps
+pub record IsProgram (p : Program) : Type 0 where
+  pub within : IsWithin (length p.names) (commands p.body)
+  pub formed : IsWellFormed p.names (commands p.body)
 
 -- the replay of a program on a list of answers
 abbrev pub replay_of : Program → List ℤ → Run

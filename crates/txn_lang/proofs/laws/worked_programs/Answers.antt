@@ -1,0 +1,11 @@
+use Rattle.std.proofs.Common.{refl}
+use Rattle.morty_base.specs.Names.{same_key}
+use Rattle.txn_lang.proofs.laws.worked_programs.Goals as goal
+
+pub returns-clause-five : goal.returns-clause-five
+unfolding same_key
+returns-clause-five c = record { asks_first = refl; asks_fourth = refl; prints_sum = refl; ends = refl; begins = refl }
+
+pub returns-clause-pay : goal.returns-clause-pay
+unfolding same_key
+returns-clause-pay c = record { ends = refl; made = refl; kept_none = refl }
