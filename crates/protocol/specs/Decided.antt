@@ -19,7 +19,7 @@ use Rattle.protocol.specs.Base.{entries_of}
 use Rattle.protocol.specs.World.{World}
 use Rattle.protocol.specs.Client.{Attempt}
 
--- what a node decided
+-- what a node decided of x, or learnt as decided
 abbrev pub decided_by : World → NodeId → Exec → Option Choice
 decided_by w (Client c) x = option_map (λ d. d.choice) (find (λ d. same_exec x d.exec) (w.client c).decisions)
 decided_by w (Replica r) x = decided (w.replica r) x
@@ -45,7 +45,7 @@ pub record WasSent (w : World) (b : Body) : Type 0 where
 abbrev pub UpTo : Version → Version → Type 0
 UpTo a b = before b a ≡ false
 
--- the body carries content k of execution x
+-- the body carries content k of x
 abbrev pub HasContent : Body → Exec → Content → Type 0
 HasContent (Prepare y c) x k = (y ≡ x) × (c ≡ k)
 HasContent (Finalize y v d o) x k = (y ≡ x) × (o ≡ Some k)
@@ -54,7 +54,7 @@ HasContent (Told y v vt ac de o) x k = (y ≡ x) × (o ≡ Some k)
 HasContent (Fenced w b cs vs) x k = IsIn (record { exec = x; content = k }) cs ⊎ IsIn (record { exec = x; content = k }) vs
 HasContent _ x k = ⊥
 
--- a write at or below v of a committed execution, with its write name
+-- a write at or below v of a committed execution, with its name
 pub record IsWrite (w : World) (v : Version) (d : BaseEntry) : Type 0 where
   pub exec : Exec
   pub content : Content
@@ -63,11 +63,12 @@ pub record IsWrite (w : World) (v : Version) (d : BaseEntry) : Type 0 where
   pub upto : UpTo exec.ver v
   pub entry : IsIn d (entries_of exec 1 content.writes)
 
+-- the entries stand in rising order of key
 abbrev pub IsRising : List BaseEntry → Type 0
 IsRising [] = Unit {0}
 IsRising (d ∷ ds) = ((e : BaseEntry) → IsIn e ds → key_before d.key e.key ≡ true) × IsRising ds
 
--- the base of a world at v: rising by key, for each key with a write at or below v the one of the greatest write name
+-- the base of a world at v: rising by key, for each key with a write at or below v the one of the greatest name
 pub record IsBase (w : World) (v : Version) (bs : List BaseEntry) : Type 0 where
   pub rising : IsRising bs
   pub only : (d : BaseEntry) → IsIn d bs → IsWrite w v d

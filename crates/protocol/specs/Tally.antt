@@ -20,20 +20,24 @@ use Rattle.protocol.specs.Client.Phase.{Prepared}
 use Rattle.protocol.specs.declared.TallyOut.{TallyOut}
 use Rattle.protocol.specs.declared.TallyOut.TheVariants.{Wait, FastCommit, FastAbandon, Propose}
 
--- Votes
+-- how many of the votes pass
 abbrev pub count_votes : (Vote → Bool) → List CountedVote → ℕ
 count_votes p bs = tally (λ b. p b.vote) bs
 
+-- the vote is Final
 abbrev pub is_final_vote : Vote → Bool
 is_final_vote Final = true
 is_final_vote _ = false
 
+-- the vote is not Commit
 abbrev pub not_commit : Vote → Bool
 not_commit v = not (is_commit_vote v)
 
+-- the same execution, prepared with these votes
 abbrev pub prepared : ClientState → Content → List CountedVote → Option Choice → List ℕ → ClientState
 prepared c k votes proposal accepts = record c { phase = Prepared k votes proposal accepts }
 
+-- the client proposes a choice in view 0
 unfoldable pub propose : ClientState → Content → List CountedVote → Choice → Turn
 propose c k votes d = record { state = prepared c k votes (Some d) []; sent = Finalize c.exec 0 d (content_for k d) ∷ [] }
 
@@ -57,7 +61,7 @@ on_tally r c k votes FastAbandon = decide r (prepared c k votes None []) k Aband
 on_tally r c k votes (Propose d) = propose c k votes d
 on_tally r c k votes Wait = idle (prepared c k votes None [])
 
--- from a replica numbered 1 to n
+-- the number of a sender that is one of the n replicas
 abbrev pub sender : ℕ → NodeId → Option ℕ
 sender n (Replica k) = when (nat_lt 0 k && nat_le k n) k
 sender n _ = None

@@ -11,7 +11,7 @@ use Rattle.msg.specs.declared.BaseEntry.{BaseEntry}
 use Rattle.msg.specs.declared.Body.{Body}
 use Rattle.morty_base.specs.Names.{same_exec}
 
--- what a replica told
+-- what a replica told, in one view
 pub record ToldAnswer : Type 0 where
   pub replica : ℕ
   pub vote : Option Vote
@@ -24,7 +24,8 @@ pub record Proposal : Type 0 where
   pub choice : Choice
   pub content : Option Content
 
--- one view of one execution that this warden asked for
+-- one view of an execution that this warden asks about: the Tolds that count, in order of arrival, its proposal,
+-- and who accepted it
 pub record Round : Type 0 where
   pub exec : Exec
   pub view : ℕ
@@ -32,48 +33,55 @@ pub record Round : Type 0 where
   pub proposal : Option Proposal
   pub accepts : List ℕ
 
+-- what this warden decided of an execution
 pub record DecidedProposal : Type 0 where
   pub exec : Exec
   pub proposal : Proposal
 
--- a Fenced answer that counts
+-- a Fenced that counts
 pub record FencedAnswer : Type 0 where
   pub replica : ℕ
   pub base : List BaseEntry
   pub committed : List Kept
   pub voted : List Kept
 
--- a truncation: its answers in order of arrival, and whether its Drop was sent
+-- a truncation: the Fenced that count, in order of arrival, and whether its Drop was sent
 pub record Truncation : Type 0 where
   pub w : Version
   pub answers : List FencedAnswer
   pub dropped : Bool
 
+-- what a warden remembers, of each the newest first
 pub record WardenState : Type 0 where
   pub rounds : List Round  -- the newest first
   pub decisions : List DecidedProposal  -- the newest first
   pub truncations : List Truncation  -- the newest first
 
+-- what a warden is given
 pub record WardenRules : Type 0 where
   pub warden : ℕ
   pub wardens : ℕ
   pub replicas : ℕ
   pub clients : ℕ
 
--- what it sends: to all replicas, or to a client
+-- what a warden sends: a body to all replicas, or to one client
 pub data Parcel : Type 0 where
   To_all : (body : Body) → Parcel
   To_client : (client : ℕ) (body : Body) → Parcel
 
+-- the next state, and what is sent, in order
 pub record WardenTurn : Type 0 where
   pub state : WardenState
   pub sent : List Parcel
 
+-- nothing changes and nothing is sent
 abbrev pub still : WardenState → WardenTurn
 still s = record { state = s; sent = [] }
 
+-- what this warden decided of x
 abbrev pub decision_on : WardenState → Exec → Option DecidedProposal
 decision_on s x = find (λ d. same_exec x d.exec) s.decisions
 
+-- a warden that has done nothing
 abbrev pub fresh_warden : WardenState
 fresh_warden = record { rounds = []; decisions = []; truncations = [] }
