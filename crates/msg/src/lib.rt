@@ -71,7 +71,10 @@ pub struct BaseEntry {
 #[derive(Debug, Drop)]
 pub enum Body {
     /// A client reads a key.
-    Get { exec: Exec, key: Key },
+    Get {
+        exec: Exec,
+        key: Key,
+    },
     /// The write that a reader of this version sees of the key now. `gone` names the write that it was told
     /// before, where the replica no longer holds that.
     Note {
@@ -83,11 +86,20 @@ pub enum Body {
         gone: Option<Wid>,
     },
     /// All writes that an execution has made so far.
-    Puts { exec: Exec, writes: List<Write> },
+    Puts {
+        exec: Exec,
+        writes: List<Write>,
+    },
     /// A client asks for votes on an execution that has ended.
-    Prepare { exec: Exec, content: Content },
+    Prepare {
+        exec: Exec,
+        content: Content,
+    },
     /// A replica's vote on an execution.
-    Vote { exec: Exec, vote: Vote },
+    Vote {
+        exec: Exec,
+        vote: Vote,
+    },
     /// A choice is proposed in a view. View 0 is the client's own, those above belong to wardens.
     Finalize {
         exec: Exec,
@@ -96,7 +108,10 @@ pub enum Body {
         content: Option<Content>,
     },
     /// A replica accepted what was proposed in the view.
-    Accepted { exec: Exec, view: u32 },
+    Accepted {
+        exec: Exec,
+        view: u32,
+    },
     /// The choice is made.
     Decide {
         exec: Exec,
@@ -104,7 +119,10 @@ pub enum Body {
         content: Option<Content>,
     },
     /// A warden asks for a promise in its view, and for what is known of the execution.
-    Ask { exec: Exec, view: u32 },
+    Ask {
+        exec: Exec,
+        view: u32,
+    },
     /// A replica promised the view, and tells what it knows.
     Told {
         exec: Exec,
@@ -115,7 +133,9 @@ pub enum Body {
         content: Option<Content>,
     },
     /// A warden asks replicas to vote Commit on nothing more at or below `w`.
-    Fence { w: Version },
+    Fence {
+        w: Version,
+    },
     /// A replica's answer: what it dropped before, and what it knows at or below `w`.
     Fenced {
         w: Version,
@@ -124,9 +144,15 @@ pub enum Body {
         voted: List<Kept>,
     },
     /// All at or below `w` may go; `base` stands for it.
-    Drop { w: Version, base: List<BaseEntry> },
+    Drop {
+        w: Version,
+        base: List<BaseEntry>,
+    },
     /// The version is at or below the dropped `w`, and can read nothing any more.
-    TooOld { ver: Version, w: Version },
+    TooOld {
+        ver: Version,
+        w: Version,
+    },
 }
 
 /// A body on its way between two nodes.
@@ -135,6 +161,26 @@ pub struct Envelope {
     pub from: NodeId,
     pub to: NodeId,
     pub body: Body,
+}
+
+/// What a node's link picks to happen next. `Deliver` names an envelope by its place, from 0, in the order of
+/// sending.
+#[derive(Clone, Copy, Debug, PartialEq, Eq)]
+pub enum Pick {
+    Idle,
+    Deliver(u64),
+    Go,
+    Hurry,
+    Recover(Exec),
+    Truncate(Version),
+    Stop,
+}
+
+/// What happens in a run: a pick of a node, or the pending segment of a client's program is given back.
+#[derive(Clone, Copy, Debug, PartialEq, Eq)]
+pub enum Event {
+    Picked(NodeId, Pick),
+    Ran(u32),
 }
 
 impl Content {
@@ -216,7 +262,10 @@ impl Body {
             }),
             Body::Puts { exec, writes } => {
                 let writes = writes.copy(alloc)?;
-                Ok(Body::Puts { exec: *exec, writes })
+                Ok(Body::Puts {
+                    exec: *exec,
+                    writes,
+                })
             }
             Body::Prepare { exec, content } => {
                 let content = content.copy(alloc)?;

@@ -1,0 +1,6 @@
+pub mod Logic
+pub mod Orders
+pub mod Grows
+pub mod Steps
+pub mod Members
+pub mod Quorums

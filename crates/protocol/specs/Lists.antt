@@ -1,0 +1,32 @@
+-- Words on lists and options.
+use Rattle.std.specs.Prelude.{◌≡◌, ℕ, zero, suc, ◌⊎◌, Bool, true, false, cond, List, [], ◌∷◌, ◌++◌, Option, Some, None}
+
+-- x is an element of the list
+abbrev pub IsIn : {A : Type 0} → A → List A → Type 0
+IsIn x [] = ⊥
+IsIn x (y ∷ ys) = (x ≡ y) ⊎ IsIn x ys
+
+-- the first option where it has a value, else the second
+abbrev pub first_of_two : {A : Type 0} → Option A → Option A → Option A
+first_of_two (Some a) o = Some a
+first_of_two None o = o
+
+-- the value where the test holds
+abbrev pub when : {A : Type 0} → Bool → A → Option A
+when true a = Some a
+when false a = None
+
+-- one element where the test holds, else none
+abbrev pub one_when : {A : Type 0} → Bool → A → List A
+one_when true a = a ∷ []
+one_when false a = []
+
+-- the numbers from 1 to n
+abbrev pub upto : ℕ → List ℕ
+upto zero = []
+upto (suc n) = upto n ++ (suc n ∷ [])
+
+-- how many elements pass the test
+abbrev pub tally : {A : Type 0} → (A → Bool) → List A → ℕ
+tally p [] = 0
+tally p (x ∷ xs) = cond (p x) (suc (tally p xs)) (tally p xs)

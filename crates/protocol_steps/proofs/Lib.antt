@@ -1,0 +1,14 @@
+pub mod Mail
+pub mod Spoken
+pub mod Provenance
+pub mod Accepts
+pub mod Acts
+pub mod Reach
+pub mod Known
+pub mod Votes
+pub mod Dropped
+pub mod Fenced
+pub mod Facts
+pub mod Wards
+pub mod ClientFacts
+pub mod WardFacts

@@ -1,0 +1,15 @@
+pub mod One
+pub mod Locks
+pub mod Bases
+pub mod Stays
+pub mod Evidence
+pub mod WardEvidence
+pub mod Chosen
+pub mod Safety
+pub mod Contents
+pub mod Cuts
+pub mod Agreed
+pub mod Based
+pub mod Tried
+pub mod Invariants
+pub mod Unique

@@ -1,0 +1,5 @@
+use Rattle.safety.proofs.Based as proved
+use Rattle.safety.proofs.base_of_drop.Goals as goal
+
+pub returns : goal.returns
+returns c = proved.base_of_drop

@@ -1,0 +1,5 @@
+use Rattle.safety.proofs.Invariants as proved
+use Rattle.safety.proofs.locks_hold.Goals as goal
+
+pub returns : goal.returns
+returns c = proved.locks_hold

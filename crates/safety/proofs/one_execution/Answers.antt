@@ -1,0 +1,5 @@
+use Rattle.safety.proofs.Tried as proved
+use Rattle.safety.proofs.one_execution.Goals as goal
+
+pub returns : goal.returns
+returns c = proved.one_execution

@@ -1,0 +1,27 @@
+-- Agreement, and its ground.
+use Rattle.std.specs.Prelude.{◌≡◌, ◌≢◌, ◌<◌, false, List, Some}
+use Rattle.morty_base.specs.declared.names.Exec.{Exec}
+use Rattle.morty_base.specs.declared.names.NodeId.{NodeId}
+use Rattle.msg.specs.declared.Choice.TheVariants.{Abandon, Commit as ToCommit}
+use Rattle.msg.specs.declared.Envelope.{Envelope}
+use Rattle.msg.specs.declared.Content.{Content}
+use Rattle.msg.specs.declared.Body.TheVariants.{Prepare}
+use Rattle.protocol.specs.Lists.{IsIn}
+use Rattle.protocol.specs.Votes.{conflicts}
+use Rattle.msg.specs.declared.Event.{Event}
+use Rattle.protocol.specs.World.{Plan, first_world, replay_from}
+use Rattle.protocol.specs.Decided.{decided_by}
+
+abbrev pub Agreement : Type 0
+Agreement = (p : Plan) → 0 < p.replicas → (events : List Event) (x : Exec) (a b : NodeId) →
+    decided_by (replay_from p first_world events) a x ≡ Some Abandon →
+    decided_by (replay_from p first_world events) b x ≢ Some ToCommit
+
+-- two executions that are decided Commit are not in conflict, by the contents that their clients prepared
+abbrev pub NoConflict : Type 0
+NoConflict = (p : Plan) → 0 < p.replicas → (events : List Event) (x y : Exec) (a b : NodeId) (k l : Content) (e f : Envelope) →
+    decided_by (replay_from p first_world events) a x ≡ Some ToCommit →
+    decided_by (replay_from p first_world events) b y ≡ Some ToCommit →
+    IsIn e (replay_from p first_world events).mail → e.body ≡ Prepare x k →
+    IsIn f (replay_from p first_world events).mail → f.body ≡ Prepare y l →
+    conflicts x.ver k y.ver l ≡ false

@@ -1,0 +1,54 @@
+-- The invariants on which agreement rests.
+use Rattle.std.specs.Prelude.{◌≡◌, ℕ, ◌<◌, ◌≤◌, ◌⊎◌, List, Option, Some}
+use Rattle.morty_base.specs.declared.names.Exec.{Exec}
+use Rattle.morty_base.specs.declared.names.NodeId.{NodeId}
+use Rattle.msg.specs.declared.Body.{Body}
+use Rattle.msg.specs.declared.Content.{Content}
+use Rattle.msg.specs.declared.Vote.TheVariants.{Final}
+use Rattle.msg.specs.declared.Choice.{Choice}
+use Rattle.msg.specs.declared.Choice.TheVariants.{Abandon, Commit as ToCommit}
+use Rattle.msg.specs.declared.Body.TheVariants.{Finalize}
+use Rattle.protocol.specs.Votes.{vote}
+use Rattle.msg.specs.declared.Event.{Event}
+use Rattle.protocol.specs.World.{Plan, World, first_world, replay_from}
+use Rattle.protocol.specs.Decided.{decided_by, WasSent, Committed, HasContent}
+use Rattle.protocol.specs.Quorums.{Quorum}
+use Rattle.safety.specs.Locks.{VotedCommit, HasAccepted, Shut, AbandonLock, CommitLock}
+
+-- all contents of x in the mail are equal
+abbrev pub OneContent : Type 0
+OneContent = (p : Plan) → 0 < p.replicas → (events : List Event) (x : Exec) (b c : Body) (k l : Content) →
+    WasSent (replay_from p first_world events) b → WasSent (replay_from p first_world events) c →
+    HasContent b x k → HasContent c x l → k ≡ l
+
+-- where a node decided Commit of x, or a Finalize of Commit of x was sent, f+1 replicas voted Commit on x
+abbrev pub CommitNeedsVotes : Type 0
+CommitNeedsVotes = (p : Plan) → 0 < p.replicas → (events : List Event) (x : Exec) →
+    Committed (replay_from p first_world events) x ⊎ ((v : ℕ) × (o : Option Content) × WasSent (replay_from p first_world events) (Finalize x v ToCommit o)) →
+    Quorum p.replicas (VotedCommit (replay_from p first_world events) x)
+
+-- where a Finalize of Abandon of x was sent, the client sent one in view 0, or some replica is shut to x
+abbrev pub AbandonProposals : Type 0
+AbandonProposals = (p : Plan) → 0 < p.replicas → (events : List Event) (x : Exec) (v : ℕ) (o : Option Content) →
+    WasSent (replay_from p first_world events) (Finalize x v Abandon o) →
+    ((u : Option Content) × WasSent (replay_from p first_world events) (Finalize x 0 Abandon u))
+    ⊎ ((r : ℕ) × (0 < r) × (r ≤ p.replicas) × Shut (replay_from p first_world events) x r)
+
+-- all Finalizes of x in one view carry one choice; what f+1 replicas accepted in one view, every Finalize of a higher view carries
+pub record ViewsOf (p : Plan) (w : World) : Type 0 where
+  pub one : (x : Exec) (v : ℕ) (d c : Choice) (o u : Option Content) → WasSent w (Finalize x v d o) → WasSent w (Finalize x v c u) → d ≡ c
+  pub carried : (x : Exec) (u v : ℕ) (d c : Choice) (o : Option Content) → Quorum p.replicas (HasAccepted w x u c) → WasSent w (Finalize x v d o) → u < v → d ≡ c
+
+abbrev pub Views : Type 0
+Views = (p : Plan) → 0 < p.replicas → (events : List Event) → ViewsOf p (replay_from p first_world events)
+
+-- where a node decided Abandon of x, or a Final vote on x was sent, Abandon of x is locked;
+-- where a node decided Commit of x, Commit of x is locked; the two are never locked both
+pub record LocksOf (p : Plan) (w : World) : Type 0 where
+  pub abandoned : (n : NodeId) (x : Exec) → decided_by w n x ≡ Some Abandon → AbandonLock p.replicas w x
+  pub final : (r : ℕ) (x : Exec) → vote (w.replica r) x ≡ Some Final → AbandonLock p.replicas w x
+  pub committed : (x : Exec) → Committed w x → CommitLock p.replicas w x
+  pub never_both : (x : Exec) → AbandonLock p.replicas w x → CommitLock p.replicas w x → ⊥
+
+abbrev pub LocksHold : Type 0
+LocksHold = (p : Plan) → 0 < p.replicas → (events : List Event) → LocksOf p (replay_from p first_world events)

@@ -1,0 +1,5 @@
+pub mod Locks
+pub mod Agreement
+pub mod Tries
+pub mod Bases
+pub mod Invariants

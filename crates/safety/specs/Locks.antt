@@ -1,0 +1,41 @@
+-- What locks a choice.
+use Rattle.std.specs.Prelude.{◌≡◌, ◌≢◌, ℕ, ◌<◌, ◌≤◌, true, Option, Some}
+use Rattle.morty_base.specs.declared.names.Exec.{Exec}
+use Rattle.msg.specs.declared.Content.{Content}
+use Rattle.msg.specs.declared.Vote.{Vote}
+use Rattle.msg.specs.declared.Vote.TheVariants.{Commit}
+use Rattle.msg.specs.declared.Choice.{Choice}
+use Rattle.msg.specs.declared.Choice.TheVariants.{Abandon, Commit as ToCommit}
+use Rattle.msg.specs.declared.Body.TheVariants.{Prepare, Finalize, Decide}
+use Rattle.protocol.specs.Lists.{IsIn}
+use Rattle.protocol.specs.Votes.{casts, vote, Cast, conflicts}
+use Rattle.protocol.specs.Replica.{promised, Acceptance, acceptances, decided, fence}
+use Rattle.protocol.specs.World.{World}
+use Rattle.protocol_steps.specs.Executions.{Over}
+use Rattle.protocol.specs.Quorums.{Quorum}
+use Rattle.protocol.specs.Decided.{UpTo, WasSent}
+
+-- replica r voted Commit on x
+abbrev pub VotedCommit : World → Exec → ℕ → Type 0
+VotedCommit w x r = vote (w.replica r) x ≡ Some Commit
+
+-- replica r accepted d on x in view v
+abbrev pub HasAccepted : World → Exec → ℕ → Choice → ℕ → Type 0
+HasAccepted w x v d r = (a : Acceptance) × IsIn a (acceptances (w.replica r)) × (a.exec ≡ x) × (a.view ≡ v) × (a.choice ≡ d)
+
+-- a replica that has not voted Commit on x and never will
+pub data Shut (w : World) (x : Exec) (r : ℕ) : Type 0 where
+  Voted_other : (v : Vote) → v ≢ Commit → vote (w.replica r) x ≡ Some v → Shut w x r
+  Has_promised : vote (w.replica r) x ≢ Some Commit → 0 < promised (w.replica r) x → Shut w x r
+  Has_decided : vote (w.replica r) x ≢ Some Commit → (d : Choice) → decided (w.replica r) x ≡ Some d → Shut w x r
+  Fenced_out : vote (w.replica r) x ≢ Some Commit → UpTo x.ver (fence (w.replica r)) → Shut w x r
+  Unsent : ((k : Content) → WasSent w (Prepare x k) → ⊥) → Over x (w.client x.ver.client) → Shut w x r
+  Conflicting : vote (w.replica r) x ≢ Some Commit → (k : Content) → WasSent w (Prepare x k) → (c : Cast) → IsIn c (casts (w.replica r)) → c.vote ≡ Commit → conflicts x.ver k c.exec.ver c.content ≡ true → (o : Option Content) → WasSent w (Decide c.exec ToCommit o) → Shut w x r
+
+pub data AbandonLock (n : ℕ) (w : World) (x : Exec) : Type 0 where
+  Accepted_abandon : (v : ℕ) → Quorum n (HasAccepted w x v Abandon) → AbandonLock n w x
+  All_shut : Quorum n (Shut w x) → AbandonLock n w x
+
+pub data CommitLock (n : ℕ) (w : World) (x : Exec) : Type 0 where
+  Accepted_commit : (v : ℕ) → Quorum n (HasAccepted w x v ToCommit) → CommitLock n w x
+  Fast : ((r : ℕ) → 0 < r → r ≤ n → VotedCommit w x r) → Over x (w.client x.ver.client) → ((d : Choice) (o : Option Content) → WasSent w (Finalize x 0 d o) → ⊥) → CommitLock n w x

@@ -1,0 +1,4 @@
+pub mod Read
+pub mod Labels
+pub mod Noted
+pub mod Between

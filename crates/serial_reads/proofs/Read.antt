@@ -1,0 +1,268 @@
+use Rattle.std.proofs.Common.{◌≡◌, ℕ, ℤ, ◌<◌, ◌⊎◌, inl, inr, refl, ap, sym, ◌∙◌, subst, true, false, Bool, cond, List, [], ◌∷◌, ◌++◌, Option, Some, None, arith}
+use Rattle.std.specs.Prelude.{suc, map, filter, filter_map, flat_map, ◌&&◌}
+use Rattle.std.specs.List.{cons_option}
+use Rattle.morty_base.specs.declared.names.Exec.{Exec}
+use Rattle.morty_base.specs.declared.names.Version.{Version}
+use Rattle.morty_base.specs.declared.names.Wid.{Wid}
+use Rattle.morty_base.specs.declared.names.Key.{Key}
+use Rattle.morty_base.specs.declared.names.NodeId.{NodeId}
+use Rattle.morty_base.specs.declared.names.NodeId.TheVariants.{Client, Replica, Warden}
+use Rattle.msg.specs.declared.Envelope.{Envelope}
+use Rattle.msg.specs.declared.BaseEntry.{BaseEntry}
+use Rattle.msg.specs.declared.Body.{Body}
+use Rattle.msg.specs.declared.Content.{Content}
+use Rattle.msg.specs.declared.Kept.{Kept}
+use Rattle.msg.specs.declared.Write.{Write}
+use Rattle.msg.specs.declared.Body.TheVariants.{Get, Note, Prepare, Finalize, Ask, Fence, Vote as Voted, Drop as Drops}
+use Rattle.morty_base.specs.Names.{no_version, before, same_key, wid_before}
+use Rattle.protocol.specs.Lists.{IsIn, first_of_two, when}
+use Rattle.protocol.specs.Replica.{Handled, takes, after_taking, dropped, base, commits}
+use Rattle.protocol.specs.Votes.{casts, new_cast, Cast}
+use Rattle.protocol.specs.declared.First2.{First2}
+use Rattle.protocol.specs.declared.Held.{Held}
+use Rattle.protocol.specs.Held.{Put, first_held, last_write, best_below, held, latest, kept_put, counting_put}
+use Rattle.protocol.specs.Said.{Reader, says, answer, refusal, due, note_for, envelope_from, readers}
+use Rattle.protocol.specs.Base.{entries_of}
+use Rattle.protocol.specs.World.{Plan, World, first_world, replay_from, to_all, parcel}
+use Rattle.protocol.specs.Decided.{WasSent}
+use Rattle.serial_reads.specs.Reads.{IsLastWrite, IsSure, SureNotes}
+use Rattle.serial_reads.specs.Reads.IsSure.{First_value, Last_write}
+use Rattle.protocol.proofs.Logic.{and_left}
+use Rattle.protocol.proofs.Orders.{key_is, key_itself, wid_itself, wid_within}
+use Rattle.protocol.proofs.Members.{IsIn-cases, IsIn-map, IsIn-flat_map, IsIn-one_when, at_same}
+use Rattle.protocol_steps.proofs.Dropped.{true_false, no_base, dropped_taken, takes_above, up_to_none, IsIn-filtered}
+use Rattle.protocol_steps.proofs.Mail.{took_reach}
+use Rattle.protocol_steps.proofs.Reach.{Step, Reach, events_reach}
+use Rattle.protocol_steps.proofs.Reach.Step.{Stands, Client_acts, Replica_acts, Warden_acts}
+use Rattle.protocol_steps.proofs.Reach.From.{Begins, Next}
+use Rattle.protocol_steps.proofs.Provenance.{from_to_all, from_parcels}
+use Rattle.safety.proofs.Locks.{sent_grows}
+use Rattle.safety.proofs.Cuts.{CommitSent, commit_sent, commit_prepared}
+use Rattle.safety.proofs.Agreed.{safe_reach}
+use Rattle.safety.proofs.Based.{drop_rising, sent_committed}
+use Rattle.safety.proofs.Bases.{entry_wid, rising_one}
+
+last_none : (x : Exec) (s : Bool) (i : ℕ) (k : Key) (ws : List Write) → last_write x s i k ws ≡ None → (e : BaseEntry) → IsIn e (entries_of x i ws) → e.key ≡ k → ⊥
+last_none x s i k [] q e j f = j
+last_none x s i k (w ∷ ws) q e j f = go (λ z m. last_none x s (suc i) k ws z e m f) (last_write x s (suc i) k ws) refl (same_key k w.key) refl q j
+  where
+    go : (last_write x s (suc i) k ws ≡ None → IsIn e (entries_of x (suc i) ws) → ⊥) → (o : Option Held) → last_write x s (suc i) k ws ≡ o → (t : Bool) → same_key k w.key ≡ t
+        → first_of_two o (when t (record { wid = record { ver = x.ver; eid = x.eid; seq = i }; value = w.value; sure = s })) ≡ None → IsIn e (entries_of x i (w ∷ ws)) → ⊥
+    go ih (Some b) g t h z m = cc
+    go ih None g true h z m = cc
+    go ih None g false h z (inl m) = true_false (sym (subst (λ (y : Key). same_key k y ≡ true) (sym f ∙ ap (λ (y : BaseEntry). y.key) m) (key_itself k)) ∙ h)
+    go ih None g false h z (inr m) = ih g m
+
+record LastIs (x : Exec) (s : Bool) (i : ℕ) (k : Key) (ws : List Write) (a : Held) : Type 0 where
+  pub sure : a.sure ≡ s
+  pub entry : IsIn (record { key = k; wid = a.wid; value = a.value }) (entries_of x i ws)
+  pub last : (e : BaseEntry) → IsIn e (entries_of x i ws) → e.key ≡ k → wid_before a.wid e.wid ≡ false
+
+last_is : (x : Exec) (s : Bool) (i : ℕ) (k : Key) (ws : List Write) (a : Held) → last_write x s i k ws ≡ Some a → LastIs x s i k ws a
+last_is x s i k [] a q = cc
+last_is x s i k (w ∷ ws) a q = go (λ z. last_is x s (suc i) k ws a z) (last_write x s (suc i) k ws) refl (same_key k w.key) refl q
+  where
+    here : Held
+    here = record { wid = record { ver = x.ver; eid = x.eid; seq = i }; value = w.value; sure = s }
+
+    head : same_key k w.key ≡ true → last_write x s (suc i) k ws ≡ None → LastIs x s i k (w ∷ ws) (record { wid = record { ver = x.ver; eid = x.eid; seq = i }; value = w.value; sure = s })
+    head t n = record {
+      sure = refl;
+      entry = inl (ap (λ (y : Key). record { key = y; wid = record { ver = x.ver; eid = x.eid; seq = i }; value = w.value }) (key_is k w.key t));
+      last = λ e j f. elim j [ inl z ↦ subst (λ (y : Wid). wid_before (record { ver = x.ver; eid = x.eid; seq = i }) y ≡ false) (ap (λ (y : BaseEntry). y.wid) (sym z)) (wid_itself (record { ver = x.ver; eid = x.eid; seq = i })) | inr m ↦ absurd (last_none x s (suc i) k ws n e m f) ];
+    }
+
+    go : (last_write x s (suc i) k ws ≡ Some a → LastIs x s (suc i) k ws a) → (o : Option Held) → last_write x s (suc i) k ws ≡ o → (t : Bool) → same_key k w.key ≡ t
+        → first_of_two o (when t (record { wid = record { ver = x.ver; eid = x.eid; seq = i }; value = w.value; sure = s })) ≡ Some a → LastIs x s i k (w ∷ ws) a
+    go ih (Some b) g t h z = let r = ih (g ∙ z) in let n = entry_wid x (suc i) ws _ r.entry in record {
+      sure = r.sure;
+      entry = inr r.entry;
+      last = λ e j f. elim j [
+        | inl m ↦ let l = n.2 in let y = ap (λ (y : BaseEntry). y.wid.seq) m in wid_within a.wid e.wid (n.0 ∙ sym (ap (λ (y : BaseEntry). y.wid.ver) m)) (n.1 ∙ sym (ap (λ (y : BaseEntry). y.wid.eid) m)) (omega (arith, l, y))
+        | inr m ↦ r.last e m f
+      ];
+    }
+    go ih None g true h z = let y : record { wid = record { ver = x.ver; eid = x.eid; seq = i }; value = w.value; sure = s } ≡ a = cc in subst (λ (b : Held). LastIs x s i k (w ∷ ws) b) y (head h g)
+    go ih None g false h z = cc
+
+-- the write held that is latest
+best_is : (v : Version) (b : Held) (xs : List Held) → (best_below v b xs ≡ b) ⊎ (IsIn (best_below v b xs) xs × (before (best_below v b xs).wid.ver v ≡ true))
+best_is v b [] = inl refl
+best_is v b (a ∷ more) = go (λ c. best_is v c more) (before a.wid.ver v && wid_before b.wid a.wid) refl
+  where
+    go : ((c : Held) → (best_below v c more ≡ c) ⊎ (IsIn (best_below v c more) more × (before (best_below v c more).wid.ver v ≡ true))) → (t : Bool) → (before a.wid.ver v && wid_before b.wid a.wid) ≡ t
+        → (best_below v (cond t a b) more ≡ b) ⊎ (IsIn (best_below v (cond t a b) more) (a ∷ more) × (before (best_below v (cond t a b) more).wid.ver v ≡ true))
+    go ih true q = elim (ih a) [ inl z ↦ inr (inl z, subst (λ (y : Held). before y.wid.ver v ≡ true) (sym z) (and_left (before a.wid.ver v) _ q)) | inr z ↦ inr (inr z.0, z.1) ]
+    go ih false q = elim (ih b) [ inl z ↦ inl z | inr z ↦ inr (inr z.0, z.1) ]
+
+first_is : (fs : List First2) (k : Key) → (first_held fs k).wid ≡ record { ver = no_version; eid = 0; seq = 0 }
+first_is [] k = refl
+first_is (f ∷ fs) k = go (same_key k f.key) (first_is fs k)
+  where
+    go : (t : Bool) → (first_held fs k).wid ≡ record { ver = no_version; eid = 0; seq = 0 } → (cond t (record { wid = record { ver = no_version; eid = 0; seq = 0 }; value = f.value; sure = true }) (first_held fs k)).wid ≡ record { ver = no_version; eid = 0; seq = 0 }
+    go true ih = refl
+    go false ih = ih
+
+IsIn-filter_map : {A B : Type 0} (f : A → Option B) (b : B) (xs : List A) → IsIn b (filter_map f xs) → (a : A) × IsIn a xs × (f a ≡ Some b)
+IsIn-filter_map f b [] i = absurd i
+IsIn-filter_map {A} {B} f b (x ∷ xs) i = go (λ j. IsIn-filter_map f b xs j) (f x) refl i
+  where
+    go : (IsIn b (filter_map f xs) → (a : A) × IsIn a xs × (f a ≡ Some b)) → (o : Option B) → f x ≡ o → IsIn b (cons_option o (filter_map f xs)) → (a : A) × IsIn a (x ∷ xs) × (f a ≡ Some b)
+    go ih None q i = let k = ih i in (k.0, inr k.1, k.2)
+    go ih (Some c) q (inl z) = (x, inl refl, q ∙ ap Some (sym z))
+    go ih (Some c) q (inr i) = let k = ih i in (k.0, inr k.1, k.2)
+
+-- what a sure write that is held is
+data HeldCase (firsts : List First2) (h : Handled) (k : Key) (a : Held) : Type 0 where
+  Is_first : a ≡ first_held firsts k → HeldCase firsts h k a
+  Of_base : (b : BaseEntry) → IsIn b (base h) → k ≡ b.key → a ≡ record { wid = b.wid; value = b.value; sure = true } → HeldCase firsts h k a
+  Of_commit : (c : Kept) → IsIn c (commits h) → last_write c.exec true 1 k c.content.writes ≡ Some a → HeldCase firsts h k a
+
+put_unsure : (h : Handled) (k : Key) (v : Version) (a : Held) (o : Option Put) → (elim o [ None ↦ None | Some p ↦ last_write p.exec false 1 k p.writes ]) ≡ Some a → a.sure ≡ true → ⊥
+put_unsure h k v a None e f = cc
+put_unsure h k v a (Some p) e f = true_false (sym f ∙ (last_is p.exec false 1 k p.writes a e).sure)
+
+held_is : (firsts : List First2) (h : Handled) (k : Key) (a : Held) → IsIn a (held firsts h k) → a.sure ≡ true → HeldCase firsts h k a
+unfolding held
+held_is firsts h k a (inl e) f = Is_first e
+held_is firsts h k a (inr i) f = elim (IsIn-cases a (map (λ (b : BaseEntry). record { wid = b.wid; value = b.value; sure = true }) (filter (λ (b : BaseEntry). same_key k b.key) (base h))) _ i) [
+  | inl j ↦ let m = IsIn-map (λ (b : BaseEntry). record { wid = b.wid; value = b.value; sure = true }) a (filter (λ (b : BaseEntry). same_key k b.key) (base h)) j in
+      let n = IsIn-filtered (λ (b : BaseEntry). same_key k b.key) (base h) m.0 m.1 in Of_base m.0 n.0 (key_is k m.0.key n.1) m.2
+  | inr j ↦ elim (IsIn-cases a (filter_map (λ (c : Kept). last_write c.exec true 1 k c.content.writes) (filter (λ (c : Kept). before (dropped h) c.exec.ver) (commits h))) _ j) [
+    | inl g ↦ let m = IsIn-filter_map (λ (c : Kept). last_write c.exec true 1 k c.content.writes) a (filter (λ (c : Kept). before (dropped h) c.exec.ver) (commits h)) g in
+        Of_commit m.0 (IsIn-filtered (λ (c : Kept). before (dropped h) c.exec.ver) (commits h) m.0 m.1).0 m.2
+    | inr g ↦ let m = IsIn-filter_map (λ v. elim (counting_put h v (kept_put h v)) [ None ↦ None | Some p ↦ last_write p.exec false 1 k p.writes ]) a _ g in
+        absurd (put_unsure h k m.0 a (counting_put h m.0 (kept_put h m.0)) m.2 f)
+  ]
+]
+
+latest_is : (firsts : List First2) (h : Handled) (k : Key) (v : Version) → before no_version v ≡ true → (latest firsts h k v).sure ≡ true → (before (latest firsts h k v).wid.ver v ≡ true) × HeldCase firsts h k (latest firsts h k v)
+unfolding latest
+latest_is firsts h k v n s = elim (best_is v (first_held firsts k) (held firsts h k)) [
+  | inl z ↦ (subst (λ (y : Held). before y.wid.ver v ≡ true) (sym z) (subst (λ (y : Wid). before y.ver v ≡ true) (sym (first_is firsts k)) n), Is_first z)
+  | inr z ↦ (z.1, held_is firsts h k (best_below v (first_held firsts k) (held firsts h k)) z.0 s)
+]
+
+-- a sure write, as far as what was sent tells
+data Sure (p : Plan) (w : World) (k : Key) (wid : Wid) (value : ℤ) : Type 0 where
+  Firsts : wid ≡ record { ver = no_version; eid = 0; seq = 0 } → value ≡ (first_held p.firsts k).value → Sure p w k wid value
+  Lasts : (y : Exec) (l : Content) → CommitSent w y → WasSent w (Prepare y l) → IsLastWrite y l k wid value → Sure p w k wid value
+
+sure_grows : (p : Plan) (w w' : World) → Step p w w' → (k : Key) (wid : Wid) (value : ℤ) → Sure p w k wid value → Sure p w' k wid value
+sure_grows p w w' s k wid value (Firsts e f) = Firsts e f
+sure_grows p w w' s k wid value (Lasts y l c t i) = Lasts y l (c.0, sent_grows p w w' s _ c.1) (sent_grows p w w' s _ t) i
+
+module _ (p : Plan) (pos : 0 < p.replicas) (w : World) (q : Reach p w) (r : ℕ) (k : Key) (a : Held) where
+  held_sure : HeldCase p.firsts (w.replica r) k a → Sure p w k a.wid a.value
+  held_sure (Is_first e) = Firsts (ap (λ (y : Held). y.wid) e ∙ first_is p.firsts k) (ap (λ (y : Held). y.value) e)
+  held_sure (Of_commit c i e) = let l = last_is c.exec true 1 k c.content.writes a e in
+      Lasts c.exec c.content (Some c.content, commit_sent p w q r c i) (commit_prepared p pos w q (safe_reach p pos w q) r c i) (record { entry = l.entry; last = l.last })
+  held_sure (Of_base b i e f) = go (before no_version (dropped (w.replica r))) refl
+    where
+      go : (z : Bool) → before no_version (dropped (w.replica r)) ≡ z → Sure p w k a.wid a.value
+      go false n = absurd (subst (λ (bs : List BaseEntry). IsIn b bs) (no_base (w.replica r) n) i)
+      go true n =
+          let d = dropped_taken (w.replica r) n in
+          let sent : WasSent w (Drops (dropped (w.replica r)) (base (w.replica r))) = record { envelope = d.0; there = ((took_reach p w q).took r d.0 d.1).0; body = d.2 } in
+          let s = safe_reach p pos w q in
+          let y = s.bases.written (dropped (w.replica r)) (base (w.replica r)) sent b i in
+          let top : IsLastWrite y.exec y.content b.key b.wid b.value = record {
+            entry = y.entry;
+            last = λ e j g.
+                let h = s.bases.holds (dropped (w.replica r)) (base (w.replica r)) sent y.exec y.content y.decision.0 y.decision.1 y.prepare y.upto e j in
+                subst (λ (v : BaseEntry). wid_before v.wid e.wid ≡ false) (rising_one (base (w.replica r)) (drop_rising p w q _ (base (w.replica r)) sent) h.0 b h.1 i (h.2 ∙ g)) h.3;
+          } in
+          Lasts y.exec y.content y.decision y.prepare
+          (subst (λ (v : Wid). IsLastWrite y.exec y.content k v a.value) (ap (λ (v : Held). v.wid) (sym f)) (subst (λ (v : ℤ). IsLastWrite y.exec y.content k b.wid v) (ap (λ (v : Held). v.value) (sym f)) (subst (λ (v : Key). IsLastWrite y.exec y.content v b.wid b.value) (sym e) top)))
+
+-- a Note that is sent tells what is latest, before the envelope or after it
+record Latest (firsts : List First2) (g : Handled) (v : Version) (k : Key) (wid : Wid) (value : ℤ) (s : Bool) : Type 0 where
+  pub above : before no_version v ≡ true
+  pub same_wid : (latest firsts g k v).wid ≡ wid
+  pub same_value : (latest firsts g k v).value ≡ value
+  pub sure : (latest firsts g k v).sure ≡ s
+
+in_due : (firsts : List First2) (r : ℕ) (h g : Handled) (e : Envelope) → IsIn e (due firsts r h g) → (reader : Reader) × IsIn e (note_for firsts h g r reader)
+unfolding due
+in_due firsts r h g e i = let k = IsIn-flat_map (note_for firsts h g r) e (readers h) i in (k.0, k.2)
+
+answer_note : (firsts : List First2) (h : Handled) (b : Body) (v : Version) (k : Key) (wid : Wid) (value : ℤ) (s : Bool) (lost : Option Wid) → takes h b ≡ true → IsIn (Note v k wid value s lost) (answer firsts h b) → Latest firsts h v k wid value s
+unfolding answer
+answer_note firsts h (Get x l) v k wid value s lost tk (inl e) =
+    let a : v ≡ x.ver = cc in let b : k ≡ l = cc in let c : wid ≡ (latest firsts h l x.ver).wid = cc in let d : value ≡ (latest firsts h l x.ver).value = cc in let f : s ≡ (latest firsts h l x.ver).sure = cc in
+    subst (λ (y : Version). Latest firsts h y k wid value s) (sym a) (subst (λ (y : Key). Latest firsts h x.ver y wid value s) (sym b) (record { above = up_to_none (dropped h) x.ver (takes_above h (Get x l) tk); same_wid = sym c; same_value = sym d; sure = sym f }))
+answer_note firsts h (Get x l) v k wid value s lost tk (inr e) = absurd e
+answer_note firsts h (Prepare x c) v k wid value s lost tk i = let j = IsIn-map (λ (y : Cast). Voted y.exec y.vote) (Note v k wid value s lost) (new_cast h (casts h) (Prepare x c)) i in let e = j.2 in cc
+answer_note firsts h (Finalize x u d c) v k wid value s lost tk i = let j = IsIn-one_when _ _ (Note v k wid value s lost) i in let e = j.1 in cc
+answer_note firsts h (Ask x u) v k wid value s lost tk i = let j = IsIn-one_when _ _ (Note v k wid value s lost) i in let e = j.1 in cc
+answer_note firsts h (Fence u) v k wid value s lost tk (inl e) = cc
+answer_note firsts h (Fence u) v k wid value s lost tk (inr e) = absurd e
+answer_note firsts h _ v k wid value s lost tk i = absurd i
+
+refusal_note : (h : Handled) (b : Body) (v : Version) (k : Key) (wid : Wid) (value : ℤ) (s : Bool) (lost : Option Wid) → IsIn (Note v k wid value s lost) (refusal h b) → ⊥
+refusal_note h (Get x l) v k wid value s lost (inl e) = cc
+refusal_note h (Get x l) v k wid value s lost (inr e) = e
+refusal_note h _ v k wid value s lost i = i
+
+due_note : (firsts : List First2) (h g : Handled) (r : ℕ) (reader : Reader) (e : Envelope) (v : Version) (k : Key) (wid : Wid) (value : ℤ) (s : Bool) (lost : Option Wid) → IsIn e (note_for firsts h g r reader) → e.body ≡ Note v k wid value s lost → Latest firsts g v k wid value s
+unfolding note_for
+due_note firsts h g r reader e v k wid value s lost i q =
+    let j = IsIn-one_when _ _ e i in
+    let z = sym q ∙ ap (λ (y : Envelope). y.body) j.1 in
+    let a : v ≡ reader.ver = cc in let b : k ≡ reader.key = cc in let c : wid ≡ (latest firsts g reader.key reader.ver).wid = cc in let d : value ≡ (latest firsts g reader.key reader.ver).value = cc in let f : s ≡ (latest firsts g reader.key reader.ver).sure = cc in
+    subst (λ (y : Version). Latest firsts g y k wid value s) (sym a) (subst (λ (y : Key). Latest firsts g reader.ver y wid value s) (sym b) (record { above = up_to_none (dropped g) reader.ver (and_left (before (dropped g) reader.ver) _ j.0); same_wid = sym c; same_value = sym d; sure = sym f }))
+
+letter_in : (r : ℕ) (to : NodeId) (bs : List Body) (e : Envelope) → IsIn e (map (envelope_from r to) bs) → IsIn e.body bs
+letter_in r to bs e i = let k = IsIn-map (envelope_from r to) e bs i in subst (λ b. IsIn b bs) (sym (ap (λ (m : Envelope). m.body) k.2)) k.1
+
+note_said : (firsts : List First2) (r : ℕ) (h : Handled) (m e : Envelope) (v : Version) (k : Key) (wid : Wid) (value : ℤ) (s : Bool) (lost : Option Wid) → IsIn e (says firsts r h m) → e.body ≡ Note v k wid value s lost → Latest firsts h v k wid value s ⊎ Latest firsts (after_taking h m) v k wid value s
+unfolding says after_taking
+note_said firsts r h m e v k wid value s lost i q = go (takes h m.body) refl i
+  where
+    go : (t : Bool) → takes h m.body ≡ t → IsIn e (cond t (map (envelope_from r m.from) (answer firsts h m.body) ++ due firsts r h (m ∷ h)) (map (envelope_from r m.from) (refusal h m.body))) → Latest firsts h v k wid value s ⊎ Latest firsts (cond t (m ∷ h) h) v k wid value s
+    go true z i = elim (IsIn-cases e (map (envelope_from r m.from) (answer firsts h m.body)) (due firsts r h (m ∷ h)) i) [
+      | inl j ↦ inl (answer_note firsts h m.body v k wid value s lost z (subst (λ b. IsIn b (answer firsts h m.body)) q (letter_in r m.from (answer firsts h m.body) e j)))
+      | inr j ↦ let d = in_due firsts r h (m ∷ h) e j in inr (due_note firsts h (m ∷ h) r d.0 e v k wid value s lost d.1 q)
+    ]
+    go false z i = absurd (refusal_note h m.body v k wid value s lost (subst (λ b. IsIn b (refusal h m.body)) q (letter_in r m.from (refusal h m.body) e i)))
+
+module _ (p : Plan) (pos : 0 < p.replicas) (v : Version) (k : Key) (wid : Wid) (value : ℤ) (lost : Option Wid) where
+  Told : World → Type 0
+  Told w = (before wid.ver v ≡ true) × Sure p w k wid value
+
+  latest_told : (w : World) → Reach p w → (r : ℕ) → Latest p.firsts (w.replica r) v k wid value true → (before wid.ver v ≡ true) × Sure p w k wid value
+  latest_told w q r l =
+      let a = latest_is p.firsts (w.replica r) k v l.above l.sure in
+      let s = held_sure p pos w q r k (latest p.firsts (w.replica r) k v) a.1 in
+      (subst (λ (y : Wid). before y.ver v ≡ true) l.same_wid a.0, subst (λ (y : Wid). Sure p w k y value) l.same_wid (subst (λ (y : ℤ). Sure p w k (latest p.firsts (w.replica r) k v).wid y) l.same_value s))
+
+  told_grows : (w w' : World) → Step p w w' → (before wid.ver v ≡ true) × Sure p w k wid value → (before wid.ver v ≡ true) × Sure p w' k wid value
+  told_grows w w' s t = (t.0, sure_grows p w w' s k wid value t.1)
+
+  note_reach : (w : World) → Reach p w → (e : Envelope) (r : ℕ) → IsIn e w.mail → e.from ≡ Replica r → e.body ≡ Note v k wid value true lost → (before wid.ver v ≡ true) × Sure p w k wid value
+  note_reach _ Begins e r i f b = absurd i
+  note_reach _ (Next w w' q (Stands s)) e r i f b = told_grows w w' (Stands s) (note_reach w q e r (subst (λ l. IsIn e l) s.mail i) f b)
+  note_reach _ (Next w w' q (Client_acts s)) e r i f b = elim (IsIn-cases e w.mail (flat_map (to_all p.replicas (Client s.c)) s.sent) (subst (λ l. IsIn e l) s.mail i)) [
+    | inl j ↦ told_grows w w' (Client_acts s) (note_reach w q e r j f b)
+    | inr j ↦ let z = (from_to_all p.replicas (Client s.c) s.sent e j).0 in absurd (cc)
+  ]
+  note_reach _ (Next w w' q (Warden_acts s)) e r i f b = elim (IsIn-cases e w.mail (flat_map (parcel p.replicas (Warden s.k)) s.sent) (subst (λ l. IsIn e l) s.mail i)) [
+    | inl j ↦ told_grows w w' (Warden_acts s) (note_reach w q e r j f b)
+    | inr j ↦ let z = (from_parcels p.replicas (Warden s.k) s.sent e j).0 in absurd (cc)
+  ]
+  note_reach _ (Next w w' q (Replica_acts s)) e r i f b = elim (IsIn-cases e w.mail (says p.firsts s.r (w.replica s.r) s.m) (subst (λ l. IsIn e l) s.mail i)) [
+    | inl j ↦ told_grows w w' (Replica_acts s) (note_reach w q e r j f b)
+    | inr j ↦ elim (note_said p.firsts s.r (w.replica s.r) s.m e v k wid value true lost j b) [
+      | inl l ↦ told_grows w w' (Replica_acts s) (latest_told w q s.r l)
+      | inr l ↦ latest_told w' (Next w w' q (Replica_acts s)) s.r (subst (λ (h : Handled). Latest p.firsts h v k wid value true) (sym (ap (λ (g : ℕ → Handled). g s.r) s.replica ∙ at_same s.r (after_taking (w.replica s.r) s.m) w.replica)) l)
+    ]
+  ]
+
+pub sure_notes : SureNotes
+sure_notes p pos events e r v k wid value lost i f b =
+    let w = replay_from p first_world events in let q = events_reach p first_world first_world Begins events in
+    let n = note_reach p pos v k wid value lost w q e r i f b in (n.0, public w q n.1)
+  where
+    public : (w : World) → Reach p w → Sure p w k wid value → IsSure p w k wid value
+    public w q (Firsts e f) = First_value e f
+    public w q (Lasts y l c t i) = Last_write y l (sent_committed p pos w q y c) t i
