@@ -15,4 +15,9 @@ pub mod Recovery
 pub mod Base
 pub mod Truncation
 pub mod World
+pub mod Programs
 pub mod Decided
+pub mod Steps
+pub mod Laws
+pub mod Samples
+pub mod Telling
