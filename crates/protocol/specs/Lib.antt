@@ -16,3 +16,4 @@ pub mod Base
 pub mod Truncation
 pub mod World
 pub mod Decided
+pub mod Outcome

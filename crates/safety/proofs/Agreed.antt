@@ -48,7 +48,8 @@ use Rattle.protocol.specs.Base.{entries_of}
 use Rattle.safety.proofs.Stays.News.{Old, Of_replica, Of_client, Of_warden}
 use Rattle.protocol_steps.proofs.Dropped.{takes_above, cast_is, cast_above_none, dropped_taken, no_base}
 use Rattle.safety.proofs.Bases.{HasEntry, Written, entry_conflict, dropped_conflict, dropped_sent}
-use Rattle.safety.proofs.Cuts.{commit_sent, one_content, commit_prepared, apart_locks, CommitSent, each_or, is_commit, client_no_drop, ward_dropped, cut_now, base_holds, base_written}
+use Rattle.safety.proofs.Shapes.{commit_sent, client_no_drop, ward_dropped}
+use Rattle.safety.proofs.Cuts.{one_content, commit_prepared, apart_locks, CommitSent, each_or, is_commit, cut_now, base_holds, base_written}
 
 module _ (p : Plan) (pos : 0 < p.replicas) where
   -- the content of a commit is that of the cast

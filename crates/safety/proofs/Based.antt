@@ -41,7 +41,9 @@ use Rattle.safety.proofs.Stays.{News, news, abandon_lock_stays}
 use Rattle.safety.proofs.Locks.{sent_grows, cast_prepare}
 use Rattle.safety.proofs.Contents.{contents_reach}
 use Rattle.safety.proofs.Stays.News.{Old, Of_replica, Of_client, Of_warden}
-use Rattle.safety.proofs.Cuts.{CommitSent, apart_locks, one_content, commit_decided, client_no_drop, ward_dropped, named_fact, put_of}
+use Rattle.safety.proofs.Cuts.{CommitSent, apart_locks, one_content, named_fact}
+use Rattle.safety.proofs.Shapes.{commit_decided, client_no_drop, ward_dropped}
+use Rattle.safety.proofs.Entries.{put_of}
 use Rattle.safety.proofs.Agreed.{calm, safe_reach, decided_by_sent}
 
 find_in : {A : Type 0} (name : A → Exec) (x : Exec) (xs : List A) (a : A) → IsIn a xs → name a ≡ x → Finds (find (λ y. same_exec x (name y)) xs)

@@ -34,7 +34,8 @@ use Rattle.protocol_steps.proofs.Provenance.{parcel_body}
 use Rattle.safety.proofs.Stays.News.{Old, Of_replica, Of_client, Of_warden}
 use Rattle.safety.proofs.Evidence.{evident_reach}
 use Rattle.safety.proofs.WardEvidence.{ward_reach}
-use Rattle.safety.proofs.Safety.{quiet_not, in_single, in_none, ward_decided}
+use Rattle.safety.proofs.ClientSent.{quiet_not, in_single, in_none}
+use Rattle.safety.proofs.WardSent.{ward_decided}
 
 -- each content in the mail is that of a Prepare
 pub record Prepared_contents (w : World) : Type 0 where

@@ -5,8 +5,13 @@ pub mod Stays
 pub mod Evidence
 pub mod WardEvidence
 pub mod Chosen
+pub mod ClientSent
+pub mod Counted
+pub mod WardSent
 pub mod Safety
 pub mod Contents
+pub mod Shapes
+pub mod Entries
 pub mod Cuts
 pub mod Agreed
 pub mod Based

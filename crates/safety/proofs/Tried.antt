@@ -28,7 +28,7 @@ use Rattle.safety.proofs.Locks.{voted_prepared}
 use Rattle.safety.proofs.Stays.{News, news, running_under}
 use Rattle.safety.proofs.Stays.News.{Old, Of_replica, Of_client, Of_warden}
 use Rattle.safety.proofs.Evidence.{decisions_reach}
-use Rattle.safety.proofs.Safety.{quiet_not, in_single, in_none}
+use Rattle.safety.proofs.ClientSent.{quiet_not, in_single, in_none}
 use Rattle.safety.proofs.Cuts.{CommitSent, apart_locks}
 use Rattle.safety.proofs.Agreed.{safe_reach}
 use Rattle.safety.proofs.Based.{committed_sent}
