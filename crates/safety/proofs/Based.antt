@@ -93,7 +93,7 @@ put_rising b (c ∷ cs) r = go (put_rising b cs r.1) (same_key b.key c.key) refl
     go ih false e u true f = (λ d i. elim i [ inl z ↦ subst (λ (y : BaseEntry). key_before b.key y.key ≡ true) (sym z) f | inr j ↦ key_trans b.key c.key d.key f (r.0 d j) ], r)
     go ih false e u false f = (λ d i. elim (put_of b cs d i) [ inl z ↦ subst (λ (y : BaseEntry). key_before c.key y.key ≡ true) (sym z) (key_order b.key c.key e f) | inr j ↦ r.0 d j ], ih)
 
-puts_rising : (cs bs : List BaseEntry) → IsRising cs → IsRising (put_entries cs bs)
+pub puts_rising : (cs bs : List BaseEntry) → IsRising cs → IsRising (put_entries cs bs)
 puts_rising cs [] r = r
 puts_rising cs (b ∷ bs) r = puts_rising (put_entry b cs) bs (put_rising b cs r)
 

@@ -26,12 +26,12 @@ use Rattle.protocol.specs.World.{Plan, World}
 use Rattle.safety.specs.Bases.{IsNamed}
 use Rattle.safety.specs.Bases.IsNamed.{As_committed as Names_committed, As_voted as Names_voted, Below_dropped}
 use Rattle.protocol.proofs.Orders.{exec_is}
-use Rattle.protocol.proofs.Members.{flat_map_in, all_in, IsIn-left, IsIn-right, IsIn-cases, IsIn-flat_map}
+use Rattle.protocol.proofs.Members.{map_in, flat_map_in, all_in, IsIn-left, IsIn-right, IsIn-cases, IsIn-flat_map}
 use Rattle.protocol.proofs.Quorums.{quorums_meet}
 use Rattle.protocol_steps.proofs.Known.{found}
 use Rattle.protocol.specs.Decided.{UpTo, WasSent}
 use Rattle.protocol_steps.proofs.Dropped.{up_to_trans, IsIn-filter}
-use Rattle.protocol_steps.proofs.Fenced.{Named, map_in}
+use Rattle.protocol_steps.proofs.Fenced.{Named}
 use Rattle.protocol_steps.proofs.Fenced.Named.{As_committed, As_voted, As_abandoned, As_dropped}
 use Rattle.protocol_steps.proofs.Votes.{any_true}
 use Rattle.protocol_steps.proofs.Mail.{took_reach}

@@ -17,4 +17,7 @@ pub mod Agreed
 pub mod Based
 pub mod Tried
 pub mod Invariants
+pub mod Rising
 pub mod Unique
+pub mod Absent
+pub mod Listed

@@ -11,7 +11,7 @@ use Rattle.protocol.specs.Lists.{IsIn}
 use Rattle.protocol.specs.Client.{Rules, ClientState, Decision, Attempt}
 use Rattle.protocol.specs.Client.Phase.{Between}
 use Rattle.protocol.specs.World.{Plan, World, first_world, replay_from, rules}
-use Rattle.protocol.specs.Decided.{WasSent, IsOf}
+use Rattle.protocol.specs.Decided.{WasSent, Committed, IsOf}
 use Rattle.protocol_steps.specs.Executions.{IsEarlier}
 use Rattle.safety.specs.Tries.{OneExecution, OneTry}
 use Rattle.protocol.proofs.Members.{at_cases, at_same}
@@ -259,7 +259,7 @@ exec_order : (x y : Exec) → x.ver.client ≡ y.ver.client → IsEarlier x y �
 exec_order x y e = grind arith
 
 module _ (p : Plan) (pos : 0 < p.replicas) (w : World) (q : Reach p w) where
-  committed_prepared : (x : Exec) → CommitSent w x → (k : Content) × WasSent w (Prepare x k)
+  pub committed_prepared : (x : Exec) → CommitSent w x → (k : Content) × WasSent w (Prepare x k)
   committed_prepared x c = let v = ((safe_reach p pos w q).committed x c.0 c.1).1 in let m = quorums_meet p.replicas _ _ v v in voted_prepared p w q x Commit m.0 m.1
 
   not_both : (x y : Exec) (a b : Attempt) → CommitSent w x → CommitSent w y → IsOf w x a → IsOf w y b → x.ver.client ≡ y.ver.client → a.txn ≡ b.txn → IsEarlier x y → ⊥
@@ -275,6 +275,16 @@ module _ (p : Plan) (pos : 0 < p.replicas) (w : World) (q : Reach p w) where
     | inr o ↦ elim o [ inl z ↦ z | inr l ↦ absurd (not_both y x b a d c j i (sym e) (sym n) l) ]
   ]
 
+  -- a committed execution is one of a try, and of no other
+  pub tried : (x : Exec) → Committed w x → (a : Attempt) × IsOf w x a
+  tried x c =
+      let k = committed_prepared x (committed_sent p pos w q x c) in
+      let h = (single_reach p w q x.ver.client).has x k.0 k.1 refl in
+      (h.0, record { begun = h.1; version = h.2 })
+
+  pub one_attempt : (x : Exec) (a b : Attempt) → IsOf w x a → IsOf w x b → a ≡ b
+  one_attempt x a b i j = falling_one (w.client x.ver.client).attempts (try_rec p w q x.ver.client).falling a b i.begun j.begun (ap (λ (v : Version). v.ts) (i.version ∙ sym j.version))
+
 pub one_execution : OneExecution
 one_execution p pos events x y a b c d i j e n =
     let w = replay_from p first_world events in let q = events_reach p first_world first_world Begins events in
@@ -283,6 +293,4 @@ one_execution p pos events x y a b c d i j e n =
 pub one_try : OneTry
 one_try p pos events x c =
     let w = replay_from p first_world events in let q = events_reach p first_world first_world Begins events in
-    let k = committed_prepared p pos w q x (committed_sent p pos w q x c) in
-    let h = (single_reach p w q x.ver.client).has x k.0 k.1 refl in
-    (h.0, record { begun = h.1; version = h.2 }, λ b o. falling_one (w.client x.ver.client).attempts (try_rec p w q x.ver.client).falling b h.0 o.begun h.1 (ap (λ (v : Version). v.ts) (o.version ∙ sym h.2)))
+    let h = tried p pos w q x c in (h.0, h.1, λ b o. one_attempt p pos w q x b h.0 o h.1)

@@ -1,12 +1,12 @@
 -- What the list of the committed executions and the base of a world are.
-use Rattle.std.specs.Prelude.{◌≡◌, ◌<◌, true, List, [], ◌∷◌}
+use Rattle.std.specs.Prelude.{◌≡◌, ◌<◌, List}
 use Rattle.morty_base.specs.declared.names.Exec.{Exec}
 use Rattle.morty_base.specs.declared.names.Version.{Version}
 use Rattle.msg.specs.declared.Body.TheVariants.{Prepare}
 use Rattle.msg.specs.declared.BaseEntry.{BaseEntry}
 use Rattle.msg.specs.declared.Event.{Event}
 use Rattle.morty_base.specs.Names.{exec_before}
-use Rattle.protocol.specs.Lists.{IsIn}
+use Rattle.protocol.specs.Lists.{IsIn, IsRisingBy}
 use Rattle.protocol.specs.Client.{Attempt}
 use Rattle.protocol.specs.World.{Plan, World, first_world, replay_from}
 use Rattle.protocol.specs.Decided.{WasSent, Committed, IsOf, IsBase}
@@ -14,8 +14,7 @@ use Rattle.protocol.specs.Outcome.{CommittedExec, committed_executions, base_at}
 
 -- executions stand in rising order of version and then number
 abbrev pub IsRisingByExec : List CommittedExec → Type 0
-IsRisingByExec [] = Unit {0}
-IsRisingByExec (c ∷ cs) = ((d : CommittedExec) → IsIn d cs → exec_before c.exec d.exec ≡ true) × IsRisingByExec cs
+IsRisingByExec cs = IsRisingBy (λ c d. exec_before c.exec d.exec) cs
 
 -- a committed execution with the content of its Prepare, its transaction and its try
 pub record IsCommittedAs (w : World) (c : CommittedExec) : Type 0 where
