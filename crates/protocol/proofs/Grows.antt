@@ -13,6 +13,10 @@ use Rattle.protocol.specs.Replica.{Handled, later, dropped, dropped_by, fence, f
 use Rattle.protocol.specs.Votes.{Cast, casts, new_cast, cast_on, may_vote, verdict}
 use Rattle.protocol.proofs.Logic.{and_left, and_right, some_not_none}
 use Rattle.protocol.proofs.Orders.{before_tells, same_exec_tells}
+use Rattle.std.proofs.Common.{ap, ◌∙◌, None, Option}
+use Rattle.std.specs.Prelude.{option_map}
+use Rattle.msg.specs.declared.Vote.{Vote}
+use Rattle.protocol.specs.Votes.{vote}
 
 pub decided_stays : (h : Handled) (m : Envelope) (x : Exec) (d : Choice) → decided h x ≡ Some d → decided (m ∷ h) x ≡ Some d
 decided_stays h m x d e = rw e
@@ -58,3 +62,10 @@ new_cast_kept h old _ x y e = e
 
 pub cast_stays : (h : Handled) (m : Envelope) (x : Exec) (y : Cast) → cast_on x (casts h) ≡ Some y → cast_on x (casts (m ∷ h)) ≡ Some y
 cast_stays h m x y e = new_cast_kept h (casts h) m.body x y e
+
+pub vote_stays : (h : Handled) (m : Envelope) (x : Exec) (v : Vote) → vote h x ≡ Some v → vote (m ∷ h) x ≡ Some v
+vote_stays h m x v e = go (cast_on x (casts h)) refl e
+  where
+    go : (o : Option Cast) → cast_on x (casts h) ≡ o → option_map (λ (y : Cast). y.vote) o ≡ Some v → vote (m ∷ h) x ≡ Some v
+    go None q f = absurd cc
+    go (Some y) q f = ap (λ o. option_map (λ (z : Cast). z.vote) o) (cast_stays h m x y q) ∙ f

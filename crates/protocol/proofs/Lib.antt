@@ -4,3 +4,4 @@ pub mod Grows
 pub mod Steps
 pub mod Members
 pub mod Quorums
+pub mod Basic

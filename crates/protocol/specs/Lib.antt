@@ -16,3 +16,5 @@ pub mod Base
 pub mod Truncation
 pub mod World
 pub mod Decided
+pub mod Steps
+pub mod Laws

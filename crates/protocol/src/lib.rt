@@ -2,6 +2,10 @@
 //! the world of all of them. The types below are those that definitions and code share.
 #![tactic(auto)]
 
+mod laws;
+
+pub use laws::{events_step, mail_grows, quorums_meet, replicas_grow, taken_was_sent};
+
 use morty_base::{Key, Wid};
 use msg::Choice;
 
