@@ -40,7 +40,7 @@ fence_grows h m = later_left (fence h) (fenced_by m.body)
 -- who may vote has not voted
 may_vote_none : (h : Handled) (old : List Cast) (z : Exec) → may_vote h old z ≡ true → is_none (cast_on z old) ≡ true
 unfolding may_vote
-may_vote_none h old z e = and_left _ _ (and_right (promised h z == 0) _ e)
+may_vote_none h old z e = and_left _ _ (and_right _ _ e)
 
 -- a first cast stays the one found
 cast_kept : (x : Exec) (c : Cast) (old : List Cast) (y : Cast) → cast_on x old ≡ Some y → is_none (cast_on c.exec old) ≡ true → cast_on x (c ∷ old) ≡ Some y

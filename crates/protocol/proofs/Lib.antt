@@ -5,3 +5,4 @@ pub mod Steps
 pub mod Members
 pub mod Quorums
 pub mod Basic
+pub mod Computed

@@ -18,3 +18,5 @@ pub mod World
 pub mod Decided
 pub mod Steps
 pub mod Laws
+pub mod Samples
+pub mod Telling

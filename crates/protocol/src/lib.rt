@@ -3,8 +3,10 @@
 #![tactic(auto)]
 
 mod laws;
+mod runs;
 
 pub use laws::{events_step, mail_grows, quorums_meet, replicas_grow, taken_was_sent};
+pub use runs::{dropped_reader, hurried_client, three_views, vanished_write, warden_abandons};
 
 use morty_base::{Key, Wid};
 use msg::Choice;
