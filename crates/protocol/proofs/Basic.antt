@@ -22,7 +22,7 @@ use Rattle.protocol.proofs.Steps.{after_happens, always}
 pub quorums_meet : QuorumsMeet
 quorums_meet n p q a b =
     let m = quorums.quorums_meet n (λ r. ((0 < r) × (r ≤ n)) × (p r ≡ true)) (λ r. q r ≡ true)
-        (record { members = a.members; distinct = a.distinct; ranged = a.ranged; each = λ r i. (a.ranged r i, a.each r i); many = a.many }) b in
+    (record { members = a.members; distinct = a.distinct; ranged = a.ranged; each = λ r i. (a.ranged r i, a.each r i); many = a.many }) b in
     (m.0, m.1.0.0, m.1.0.1, m.1.1, m.2)
 
 up_to_itself : (a : Version) → UpTo a a
@@ -104,8 +104,10 @@ took_step p w w' (Stays s) t = record { took = λ r m i. let o = t.took r m (rw 
 took_step p w w' (Client_moves s) t = record { took = λ r m i. let o = t.took r m (rw s.replica at i) in (in_more p w w' (Client_moves s) m o.0, o.1) }
 took_step p w w' (Warden_moves s) t = record { took = λ r m i. let o = t.took r m (rw s.replica at i) in (in_more p w w' (Warden_moves s) m o.0, o.1) }
 took_step p w w' (Replica_moves s) t =
-    record { took = λ r m. rw s.replica (at_cases (λ h. IsIn m h → IsIn m w'.mail × (m.to ≡ Replica r)) s.r (after_taking (w.replica s.r) s.m) w.replica r
-        (λ e i. new r m e (taking_cases (w.replica s.r) s.m m i)) (λ i. old r m (t.took r m i))) }
+    record {
+      took = λ r m. rw s.replica (at_cases (λ h. IsIn m h → IsIn m w'.mail × (m.to ≡ Replica r)) s.r (after_taking (w.replica s.r) s.m) w.replica r
+          (λ e i. new r m e (taking_cases (w.replica s.r) s.m m i)) (λ i. old r m (t.took r m i)));
+    }
   where
     old : (r : ℕ) (m : Envelope) → IsIn m w.mail × (m.to ≡ Replica r) → IsIn m w'.mail × (m.to ≡ Replica r)
     old r m o = (in_more p w w' (Replica_moves s) m o.0, o.1)

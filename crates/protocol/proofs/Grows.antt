@@ -1,5 +1,4 @@
 use Rattle.std.proofs.Common.{◌≡◌, ◌≤◌, ◌⊎◌, ◌≢◌, inl, inr, refl, true, false, Bool, cond, List, ◌∷◌, ◌++◌, Some, arith}
-use Rattle.std.specs.Prelude.{◌==◌}
 use Rattle.std.specs.Option.{is_none}
 use Rattle.morty_base.specs.declared.names.Version.{Version}
 use Rattle.morty_base.specs.declared.names.Exec.{Exec}

@@ -19,7 +19,7 @@ use Rattle.msg.specs.declared.Pick.{Pick}
 use Rattle.msg.specs.declared.Pick.TheVariants.{Deliver, Go, Hurry, Recover, Truncate, Stop}
 use Rattle.msg.specs.declared.Event.{Event}
 use Rattle.msg.specs.declared.Event.TheVariants.{Picked, Ran}
-use Rattle.protocol.specs.Steps.{Came, Heard, Stayed, ByClient, ByReplica, ByWarden, Happens}
+use Rattle.protocol.specs.Steps.{Came, Heard, Happens}
 use Rattle.protocol.specs.Steps.Happens.{Stays, Client_moves, Replica_moves, Warden_moves}
 
 -- an element at a place is in the list

@@ -1,6 +1,5 @@
 -- A few programs, and scripts made of them, for runs that are computed.
 use Rattle.std.specs.Prelude.{ℕ, ℤ, pos, ◌+ℤ◌, List, [], ◌∷◌, Some, None}
-use Rattle.morty_base.specs.declared.names.Version.{Version}
 use Rattle.morty_base.specs.declared.names.Exec.{Exec}
 use Rattle.morty_base.specs.declared.names.Wid.{Wid}
 use Rattle.morty_base.specs.declared.names.Key.{Key}
@@ -16,9 +15,12 @@ x1 = record { table = 0; index = pos 1 }
 abbrev pub y1 : Key
 y1 = record { table = 1; index = pos 1 }
 
--- the first execution of a version, and a write of it
+-- the first and the second execution of a version, and a write of the first
 abbrev pub exec_of : ℕ → ℕ → Exec
 exec_of ts client = record { ver = record { ts = ts; client = client }; eid = 0 }
+
+abbrev pub second_of : ℕ → ℕ → Exec
+second_of ts client = record { ver = record { ts = ts; client = client }; eid = 1 }
 
 abbrev pub wid_of : ℕ → ℕ → ℕ → Wid
 wid_of ts client seq = record { ver = record { ts = ts; client = client }; eid = 0; seq = seq }

@@ -1,20 +1,16 @@
 -- Runs that a wrong rule would change: each is computed, and says what was sent and decided.
-use Rattle.std.specs.Prelude.{◌≡◌, pos, true, false, List, [], ◌∷◌, ◌++◌, length, Option, Some, None}
+use Rattle.std.specs.Prelude.{◌≡◌, pos, true, false, [], ◌∷◌, length, Some, None}
 use Rattle.std.specs.List.{slice_get}
 use Rattle.morty_base.specs.declared.names.NodeId.TheVariants.{Client, Replica, Warden}
-use Rattle.msg.specs.declared.Event.{Event}
 use Rattle.msg.specs.declared.Event.TheVariants.{Picked, Ran}
 use Rattle.msg.specs.declared.Pick.TheVariants.{Deliver, Go, Hurry, Recover, Truncate, Stop}
-use Rattle.msg.specs.declared.Envelope.{Envelope}
-use Rattle.msg.specs.declared.Vote.TheVariants.{Commit, Tentative, Final}
 use Rattle.msg.specs.declared.Choice.TheVariants.{Abandon, Commit as ToCommit}
-use Rattle.msg.specs.declared.Body.TheVariants.{Get, Note, Puts, Prepare, Finalize, Accepted, Decide, Ask, Told, Fenced, TooOld, Drop as Drops, Vote as Voted}
+use Rattle.msg.specs.declared.Body.TheVariants.{Note, Finalize, Accepted, Told, Drop as Drops}
 use Rattle.morty_base.specs.declared.names.Ending.TheVariants.{Done}
 use Rattle.morty_base.specs.Names.{first_wid}
-use Rattle.protocol.specs.declared.Fate.TheVariants.{Committed, Aborted}
-use Rattle.protocol.specs.World.{Plan, World, first_world, replay_from, after, enabled}
+use Rattle.protocol.specs.World.{World, first_world, replay_from, enabled}
 use Rattle.protocol.specs.Decided.{decided_by}
-use Rattle.protocol.specs.Samples.{x1, y1, exec_of, wid_of, inc, look, put, half, two, only, plan, four}
+use Rattle.protocol.specs.Samples.{x1, exec_of, second_of, wid_of, inc, look, half, only, plan, four}
 
 -- three replicas, and a client that waits for two votes alone; replica 3 accepts, though it never voted
 abbrev pub hurried_end : World
@@ -90,7 +86,7 @@ pub record VanishedWrite : Type 0 where
   pub unsure : slice_get vanished_end.mail 3 ≡ Some (record { from = Replica 1; to = Client 2; body = Note (record { ts = 20; client = 2 }) x1 (wid_of 10 1 1) (pos 7) false None })
   pub gone : slice_get vanished_end.mail 10 ≡ Some (record { from = Replica 1; to = Client 2; body = Note (record { ts = 20; client = 2 }) x1 first_wid (pos 0) true (Some (wid_of 10 1 1)) })
   pub abandoned : decided_by vanished_end (Replica 1) (exec_of 10 1) ≡ Some Abandon
-  pub decision : decided_by vanished_end (Replica 1) (record { ver = record { ts = 20; client = 2 }; eid = 1 }) ≡ Some ToCommit
+  pub decision : decided_by vanished_end (Replica 1) (second_of 20 2) ≡ Some ToCommit
 
 -- client 2 reads at version 15.2, which a truncation of 20.0 drops before it prepares
 abbrev pub reader_end : World
