@@ -4,9 +4,9 @@ use Rattle.std.specs.List.{slice_get}
 use Rattle.morty_base.specs.declared.names.NodeId.TheVariants.{Client, Replica, Warden}
 use Rattle.msg.specs.declared.Event.TheVariants.{Picked, Ran}
 use Rattle.msg.specs.declared.Pick.TheVariants.{Deliver, Go, Recover, Truncate, Stop}
-use Rattle.msg.specs.declared.Vote.TheVariants.{Commit, Final}
+use Rattle.msg.specs.declared.Vote.TheVariants.{Commit, Tentative, Final}
 use Rattle.msg.specs.declared.Choice.TheVariants.{Abandon, Commit as ToCommit}
-use Rattle.msg.specs.declared.Body.TheVariants.{Get, Note, Puts, Prepare, Decide, Told, Fenced, TooOld, Drop as Drops, Vote as Voted}
+use Rattle.msg.specs.declared.Body.TheVariants.{Get, Note, Puts, Prepare, Finalize, Decide, Told, Fenced, TooOld, Drop as Drops, Vote as Voted}
 use Rattle.morty_base.specs.declared.names.Ending.TheVariants.{Done}
 use Rattle.morty_base.specs.Names.{first_wid}
 use Rattle.protocol.specs.declared.Fate.TheVariants.{Committed, Aborted}
@@ -65,6 +65,29 @@ pub record MissedWrite : Type 0 where
   pub question : slice_get missed_end.mail 7 ≡ Some (record { from = Client 2; to = Replica 1; body = Get (second_of 20 2) y1 })
   pub undecided : decided_by missed_end (Client 2) (exec_of 20 2) ≡ None
   pub idle : enabled (plan 1 0 (only half 10 ∷ only two 20 ∷ []) [] 1) missed_end (Ran 2) ≡ None
+
+-- client 2 has prepared what it read before client 1's write of x[1] came, at a lower version
+abbrev pub again_end : World
+again_end = replay_from (plan 1 0 (only inc 10 ∷ only inc 20 ∷ []) four 1) first_world (
+    Picked (Client 2) Go ∷ Ran 2 ∷ Picked (Replica 1) (Deliver 0) ∷ Picked (Client 2) (Deliver 1) ∷ Ran 2 ∷
+    Picked (Client 1) Go ∷ Ran 1 ∷ Picked (Replica 1) (Deliver 4) ∷ Picked (Client 1) (Deliver 5) ∷ Ran 1 ∷
+    Picked (Replica 1) (Deliver 6) ∷ Picked (Client 2) (Deliver 8) ∷ Picked (Replica 1) (Deliver 7) ∷
+    Picked (Replica 1) (Deliver 3) ∷ Picked (Client 1) (Deliver 9) ∷ Picked (Replica 1) (Deliver 11) ∷
+    Picked (Client 2) (Deliver 12) ∷ Picked (Client 2) (Deliver 10) ∷ Picked (Replica 1) (Deliver 13) ∷
+    Picked (Client 2) (Deliver 14) ∷ Picked (Replica 1) (Deliver 15) ∷ Ran 2 ∷ Picked (Replica 1) (Deliver 16) ∷
+    Picked (Replica 1) (Deliver 17) ∷ Picked (Client 2) (Deliver 18) ∷ Picked (Replica 1) (Deliver 19) ∷ [])
+
+-- its vote is Tentative and its execution abandoned; it runs again from the read, on the new value, and commits
+pub record ReExecution : Type 0 where
+  pub envelopes : length again_end.mail ≡ 20
+  pub events : again_end.moved ≡ 26
+  pub note : slice_get again_end.mail 8 ≡ Some (record { from = Replica 1; to = Client 2; body = Note (record { ts = 20; client = 2 }) x1 (wid_of 10 1 1) (pos 5) false None })
+  pub vote : slice_get again_end.mail 10 ≡ Some (record { from = Replica 1; to = Client 2; body = Voted (exec_of 20 2) Tentative })
+  pub proposal : slice_get again_end.mail 13 ≡ Some (record { from = Client 2; to = Replica 1; body = Finalize (exec_of 20 2) 0 Abandon None })
+  pub puts : slice_get again_end.mail 16 ≡ Some (record { from = Client 2; to = Replica 1; body = Puts (second_of 20 2) (record { key = x1; value = pos 6 } ∷ []) })
+  pub earlier : decided_by again_end (Replica 1) (exec_of 10 1) ≡ Some ToCommit
+  pub abandoned : decided_by again_end (Replica 1) (exec_of 20 2) ≡ Some Abandon
+  pub committed : decided_by again_end (Replica 1) (second_of 20 2) ≡ Some ToCommit
 
 -- client 2 commits a read of x[1] before client 1 writes it, at a lower version
 abbrev pub late_end : World

@@ -1,7 +1,7 @@
 //! Runs of the protocol that are computed: what was sent, and what was decided.
 #![tactic(auto)]
 
-ghost use Rattle.protocol_rows.specs.Runs.{FirstRun, FastPath, MissedWrite, FinalVote, ViewContest, Truncated};
+ghost use Rattle.protocol_rows.specs.Runs.{FirstRun, FastPath, MissedWrite, ReExecution, FinalVote, ViewContest, Truncated};
 
 /// One client and one replica: nine events.
 pub fn first_run()
@@ -16,6 +16,11 @@ pub fn fast_path()
 /// A missed write begins the next execution at its read.
 pub fn missed_write()
     ensures { MissedWrite }
+{}
+
+/// A prepared execution that missed a write is abandoned, and runs again from its read.
+pub fn re_execution()
+    ensures { ReExecution }
 {}
 
 /// A write that a committed read has missed is abandoned.
