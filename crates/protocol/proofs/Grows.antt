@@ -1,5 +1,4 @@
 use Rattle.std.proofs.Common.{◌≡◌, ◌≤◌, ◌⊎◌, ◌≢◌, inl, inr, refl, true, false, Bool, cond, List, ◌∷◌, ◌++◌, Some, arith}
-use Rattle.std.specs.Prelude.{◌==◌}
 use Rattle.std.specs.Option.{is_none}
 use Rattle.morty_base.specs.declared.names.Version.{Version}
 use Rattle.morty_base.specs.declared.names.Exec.{Exec}
@@ -13,6 +12,10 @@ use Rattle.protocol.specs.Replica.{Handled, later, dropped, dropped_by, fence, f
 use Rattle.protocol.specs.Votes.{Cast, casts, new_cast, cast_on, may_vote, verdict}
 use Rattle.protocol.proofs.Logic.{and_left, and_right, some_not_none}
 use Rattle.protocol.proofs.Orders.{before_tells, same_exec_tells}
+use Rattle.std.proofs.Common.{ap, ◌∙◌, None, Option}
+use Rattle.std.specs.Prelude.{option_map}
+use Rattle.msg.specs.declared.Vote.{Vote}
+use Rattle.protocol.specs.Votes.{vote}
 
 pub decided_stays : (h : Handled) (m : Envelope) (x : Exec) (d : Choice) → decided h x ≡ Some d → decided (m ∷ h) x ≡ Some d
 decided_stays h m x d e = rw e
@@ -36,7 +39,7 @@ fence_grows h m = later_left (fence h) (fenced_by m.body)
 -- who may vote has not voted
 may_vote_none : (h : Handled) (old : List Cast) (z : Exec) → may_vote h old z ≡ true → is_none (cast_on z old) ≡ true
 unfolding may_vote
-may_vote_none h old z e = and_left _ _ (and_right (promised h z == 0) _ e)
+may_vote_none h old z e = and_left _ _ (and_right _ _ e)
 
 -- a first cast stays the one found
 cast_kept : (x : Exec) (c : Cast) (old : List Cast) (y : Cast) → cast_on x old ≡ Some y → is_none (cast_on c.exec old) ≡ true → cast_on x (c ∷ old) ≡ Some y
@@ -58,3 +61,10 @@ new_cast_kept h old _ x y e = e
 
 pub cast_stays : (h : Handled) (m : Envelope) (x : Exec) (y : Cast) → cast_on x (casts h) ≡ Some y → cast_on x (casts (m ∷ h)) ≡ Some y
 cast_stays h m x y e = new_cast_kept h (casts h) m.body x y e
+
+pub vote_stays : (h : Handled) (m : Envelope) (x : Exec) (v : Vote) → vote h x ≡ Some v → vote (m ∷ h) x ≡ Some v
+vote_stays h m x v e = go (cast_on x (casts h)) refl e
+  where
+    go : (o : Option Cast) → cast_on x (casts h) ≡ o → option_map (λ (y : Cast). y.vote) o ≡ Some v → vote (m ∷ h) x ≡ Some v
+    go None q f = absurd cc
+    go (Some y) q f = ap (λ o. option_map (λ (z : Cast). z.vote) o) (cast_stays h m x y q) ∙ f

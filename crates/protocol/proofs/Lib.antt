@@ -4,3 +4,5 @@ pub mod Grows
 pub mod Steps
 pub mod Members
 pub mod Quorums
+pub mod Basic
+pub mod Computed

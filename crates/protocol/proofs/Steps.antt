@@ -1,5 +1,5 @@
 use Rattle.std.proofs.Common.{◌≡◌, ℕ, inl, inr, refl, ap, sym, ◌∙◌, subst, true, false, Bool, List, [], ◌∷◌, ◌++◌, Option, Some, None, length}
-use Rattle.std.specs.Prelude.{cond, flat_map, option_map, zero, suc, nat_le, ◌+◌}
+use Rattle.std.specs.Prelude.{cond, option_map, zero, suc, nat_le, ◌+◌}
 use Rattle.std.proofs.lemmas.List.{append-nil}
 use Rattle.protocol.proofs.Logic.{and_left, eqb_is}
 use Rattle.std.specs.List.{slice_get}
@@ -8,76 +8,19 @@ use Rattle.morty_base.specs.declared.names.NodeId.TheVariants.{Client, Replica, 
 use Rattle.msg.specs.declared.Envelope.{Envelope}
 use Rattle.morty_base.specs.Names.{same_node}
 use Rattle.protocol.specs.Lists.{IsIn}
-use Rattle.protocol.specs.Replica.{after_taking}
-use Rattle.protocol.specs.Said.{says}
 use Rattle.protocol.specs.Client.{Turn}
 use Rattle.protocol.specs.Coordinator.{Input, client_step}
 use Rattle.protocol.specs.Coordinator.Input.{Goes, Runs, Hurries, Comes}
 use Rattle.protocol.specs.Warden.{WardenTurn}
 use Rattle.protocol.specs.Truncation.{WardenInput, warden_step}
 use Rattle.protocol.specs.Truncation.WardenInput.{Recovers, Truncates, Hears}
-use Rattle.protocol.specs.World.{Plan, World, Move, exists, is_live, in_range, rules, warden_rules, at, to_all, parcel, client_moves, warden_moves, replica_moves, client_input, warden_input, receives, pick_moves, delivers, move_of, node_of, enabled, made, after, replay_from, mark}
+use Rattle.protocol.specs.World.{Plan, World, Move, exists, is_live, in_range, rules, warden_rules, client_moves, warden_moves, replica_moves, client_input, warden_input, receives, pick_moves, delivers, move_of, node_of, enabled, made, after, replay_from, mark}
 use Rattle.msg.specs.declared.Pick.{Pick}
 use Rattle.msg.specs.declared.Pick.TheVariants.{Deliver, Go, Hurry, Recover, Truncate, Stop}
 use Rattle.msg.specs.declared.Event.{Event}
 use Rattle.msg.specs.declared.Event.TheVariants.{Picked, Ran}
-
--- an input that is an envelope was sent, and to this node
-abbrev pub Came : World → NodeId → Input → Type 0
-Came w node (Comes from b) = (m : Envelope) × IsIn m w.mail × (m.to ≡ node) × (m.from ≡ from) × (m.body ≡ b)
-Came w node _ = Unit {0}
-
-abbrev pub Heard : World → NodeId → WardenInput → Type 0
-Heard w node (Hears from b) = (m : Envelope) × IsIn m w.mail × (m.to ≡ node) × (m.from ≡ from) × (m.body ≡ b)
-Heard w node _ = Unit {0}
-
-pub record Stayed (w w' : World) : Type 0 where
-  pub client : w'.client ≡ w.client
-  pub replica : w'.replica ≡ w.replica
-  pub warden : w'.warden ≡ w.warden
-  pub mail : w'.mail ≡ w.mail
-
-pub record ByClient (p : Plan) (w w' : World) : Type 0 where
-  pub c : ℕ
-  pub real : in_range c (length p.clients) ≡ true
-  pub input : Input
-  pub came : Came w (Client c) input
-  pub turn : Turn
-  pub step : client_step (rules p c) (w.client c) input ≡ Some turn
-  pub client : w'.client ≡ at c turn.state w.client
-  pub replica : w'.replica ≡ w.replica
-  pub warden : w'.warden ≡ w.warden
-  pub mail : w'.mail ≡ w.mail ++ flat_map (to_all p.replicas (Client c)) turn.sent
-
-pub record ByReplica (p : Plan) (w w' : World) : Type 0 where
-  pub r : ℕ
-  pub real : in_range r p.replicas ≡ true
-  pub m : Envelope
-  pub in_mail : IsIn m w.mail
-  pub addressed : m.to ≡ Replica r
-  pub client : w'.client ≡ w.client
-  pub replica : w'.replica ≡ at r (after_taking (w.replica r) m) w.replica
-  pub warden : w'.warden ≡ w.warden
-  pub mail : w'.mail ≡ w.mail ++ says p.firsts r (w.replica r) m
-
-pub record ByWarden (p : Plan) (w w' : World) : Type 0 where
-  pub k : ℕ
-  pub real : in_range k p.wardens ≡ true
-  pub input : WardenInput
-  pub came : Heard w (Warden k) input
-  pub turn : WardenTurn
-  pub step : warden_step (warden_rules p k) (w.warden k) input ≡ Some turn
-  pub client : w'.client ≡ w.client
-  pub replica : w'.replica ≡ w.replica
-  pub warden : w'.warden ≡ at k turn.state w.warden
-  pub mail : w'.mail ≡ w.mail ++ flat_map (parcel p.replicas (Warden k)) turn.sent
-
--- what one event can do
-pub data Happens (p : Plan) (w w' : World) : Type 0 where
-  Stays : Stayed w w' → Happens p w w'
-  Client_moves : ByClient p w w' → Happens p w w'
-  Replica_moves : ByReplica p w w' → Happens p w w'
-  Warden_moves : ByWarden p w w' → Happens p w w'
+use Rattle.protocol.specs.Steps.{Came, Heard, Happens}
+use Rattle.protocol.specs.Steps.Happens.{Stays, Client_moves, Replica_moves, Warden_moves}
 
 -- an element at a place is in the list
 pub IsIn-get : {A : Type 0} (xs : List A) (i : ℕ) (a : A) → slice_get xs i ≡ Some a → IsIn a xs

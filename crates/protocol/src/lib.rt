@@ -2,8 +2,13 @@
 //! the world of all of them. The types below are those that definitions and code share.
 #![tactic(auto)]
 
+mod laws;
+mod runs;
+
+pub use laws::{events_step, mail_grows, quorums_meet, replicas_grow, taken_was_sent};
 use morty_base::{Key, Wid};
 use msg::Choice;
+pub use runs::{dropped_reader, hurried_client, three_views, vanished_write, warden_abandons};
 
 /// A write that a replica holds of a key. It is sure unless its execution is still undecided.
 #[derive(Clone, Copy, Debug, PartialEq, Eq)]

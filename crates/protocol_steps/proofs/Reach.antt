@@ -17,14 +17,15 @@ use Rattle.protocol.proofs.Members.{IsIn-left, at_same, at_cases}
 use Rattle.protocol_steps.proofs.Acts.{Act, TryStep, Chain, client_chain, CameTo}
 use Rattle.protocol_steps.proofs.Acts.Act.{Quiet, Advances, Prepares, Counts, Proposes, Accepts, Decides, Gives_up, Learns}
 use Rattle.protocol_steps.proofs.Acts.Chain.{Start, Then}
-use Rattle.protocol.proofs.Steps.{Happens, Stayed, ByReplica, Came, Heard, after_happens}
+use Rattle.protocol.specs.Steps.{Happens, Stayed, ByReplica, Came, Heard}
+use Rattle.protocol.proofs.Steps.{after_happens}
 use Rattle.protocol_steps.proofs.Wards.{WAct, WChain, warden_acts, HeardBy}
 use Rattle.protocol_steps.proofs.Wards.WAct.{Stills, Asks, Tolds, Accepts as Ward_accepts, Begins_cut, Counts_fenced, Ends_cut}
 use Rattle.protocol_steps.proofs.Wards.WChain.{Start as Wards_start, Then as Wards_then}
 use Rattle.protocol.specs.Warden.{WardenRules, WardenState, Parcel}
 use Rattle.protocol.specs.Truncation.{WardenInput}
 use Rattle.protocol.specs.Truncation.WardenInput.{Recovers, Truncates, Hears}
-use Rattle.protocol.proofs.Steps.Happens.{Stays, Client_moves, Replica_moves, Warden_moves}
+use Rattle.protocol.specs.Steps.Happens.{Stays, Client_moves, Replica_moves, Warden_moves}
 
 -- an envelope that was sent to client c
 abbrev pub GotAt : World → ℕ → NodeId → Body → Type 0

@@ -45,8 +45,9 @@ use Rattle.protocol.proofs.Orders.{key_is, version_is}
 use Rattle.protocol.proofs.Members.{IsIn-left, IsIn-cases, IsIn-one_when, at_cases}
 use Rattle.serial_reads.proofs.Labels.{Fits, fits_append, fits_cut, fits_set, fits_get, fits_moved, fits_changed, place_get, read_at, effect_sure}
 use Rattle.protocol.proofs.Members.{all_in}
-use Rattle.protocol.proofs.Steps.{Happens, Came, always}
-use Rattle.protocol.proofs.Steps.Happens.{Stays, Client_moves, Replica_moves, Warden_moves}
+use Rattle.protocol.specs.Steps.{Happens, Came}
+use Rattle.protocol.proofs.Steps.{always}
+use Rattle.protocol.specs.Steps.Happens.{Stays, Client_moves, Replica_moves, Warden_moves}
 use Rattle.protocol_steps.proofs.Reach.{Reach, happens_reach}
 use Rattle.protocol_steps.proofs.Reach.From.{Begins}
 use Rattle.protocol_steps.proofs.Spoken.{spoken}

@@ -1,0 +1,5 @@
+use Rattle.protocol.proofs.Basic as proved
+use Rattle.protocol.proofs.laws.mail_grows.Goals as goal
+
+pub returns : goal.returns
+returns c = proved.mail_grows

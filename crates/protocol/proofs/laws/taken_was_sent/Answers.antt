@@ -1,0 +1,5 @@
+use Rattle.protocol.proofs.Basic as proved
+use Rattle.protocol.proofs.laws.taken_was_sent.Goals as goal
+
+pub returns : goal.returns
+returns c = proved.taken_was_sent

@@ -1,0 +1,26 @@
+ghost use Rattle.protocol.specs.Laws.{QuorumsMeet, ReplicasGrow, MailGrows, TakenWasSent, EventsStep};
+
+/// Any two quorums share a replica.
+pub fn quorums_meet()
+    ensures { QuorumsMeet }
+{}
+
+/// A replica's vote, first decision, promises, acceptances, fence and dropped version only grow.
+pub fn replicas_grow()
+    ensures { ReplicasGrow }
+{}
+
+/// The mail only grows.
+pub fn mail_grows()
+    ensures { MailGrows }
+{}
+
+/// What a replica took was sent, and to it.
+pub fn taken_was_sent()
+    ensures { TakenWasSent }
+{}
+
+/// Each event stands still, or lets one client, one replica or one warden take one step.
+pub fn events_step()
+    ensures { EventsStep }
+{}
