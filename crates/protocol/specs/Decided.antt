@@ -41,6 +41,13 @@ pub record WasSent (w : World) (b : Body) : Type 0 where
   pub there : IsIn envelope w.mail
   pub body : envelope.body ≡ b
 
+-- a node sent a body
+pub record WasSentBy (w : World) (n : NodeId) (b : Body) : Type 0 where
+  pub envelope : Envelope
+  pub there : IsIn envelope w.mail
+  pub from : envelope.from ≡ n
+  pub body : envelope.body ≡ b
+
 -- a is at or below b
 abbrev pub UpTo : Version → Version → Type 0
 UpTo a b = before b a ≡ false

@@ -24,7 +24,7 @@ use Rattle.protocol.specs.Base.{put_entry, put_entries, kept_entries, decided_en
 use Rattle.protocol.specs.World.{Plan, World, first_world, replay_from, rules, warden_rules}
 use Rattle.protocol.specs.Decided.{decided_by, UpTo, WasSent, Committed, IsRising, IsBase}
 use Rattle.safety.specs.Locks.{AbandonLock}
-use Rattle.safety.specs.Bases.{BaseOfDrop, FenceNames, DropSettles, MissesAt, TwoVotes}
+use Rattle.safety.specs.Bases.{FenceNames, DropSettles, MissesAt, TwoVotes}
 use Rattle.protocol.proofs.Orders.{same_exec_refl, key_is, key_itself, key_trans, key_order}
 use Rattle.protocol.proofs.Members.{IsIn-right}
 use Rattle.protocol_steps.proofs.Known.{Finds, finds_cons, some_from, IsWell}
@@ -46,7 +46,7 @@ use Rattle.safety.proofs.Shapes.{commit_decided, client_no_drop, ward_dropped}
 use Rattle.safety.proofs.Entries.{put_of}
 use Rattle.safety.proofs.Agreed.{calm, safe_reach, decided_by_sent}
 
-find_in : {A : Type 0} (name : A → Exec) (x : Exec) (xs : List A) (a : A) → IsIn a xs → name a ≡ x → Finds (find (λ y. same_exec x (name y)) xs)
+pub find_in : {A : Type 0} (name : A → Exec) (x : Exec) (xs : List A) (a : A) → IsIn a xs → name a ≡ x → Finds (find (λ y. same_exec x (name y)) xs)
 find_in name x [] a i e = absurd i
 find_in {A = A} name x (y ∷ ys) a (inl z) e = go (same_exec x (name y)) (subst (λ v. same_exec x v ≡ true) (sym e ∙ ap name z) (same_exec_refl x))
   where
@@ -135,19 +135,17 @@ sent_later : (p : Plan) (o w : World) → From p o w → (b : Body) → WasSent 
 sent_later p o _ Begins b t = t
 sent_later p o _ (Next w w' f s) b t = sent_grows p w w' s b (sent_later p o w f b t)
 
-pub base_of_drop : BaseOfDrop
-base_of_drop p pos events more v bs t =
-    let w = replay_from p first_world events in
-    let q = events_reach p first_world first_world Begins events in
-    let f = events_reach p w w Begins more in
-    let q' = events_reach p first_world w q more in (
-      drop_base p pos w q v bs t,
-      drop_base p pos (replay_from p w more) q' v bs (sent_later p w (replay_from p w more) f _ t),
-      λ x u c. elim (drop_settles_now p pos w q v bs t x u) [
-        | inl d ↦ d
-        | inr l ↦ absurd (apart_locks p pos (replay_from p w more) q' (safe_reach p pos (replay_from p w more) q') x (lock_later p pos w (replay_from p w more) q f x l) (committed_sent p pos (replay_from p w more) q' x c))
-      ],
-    )
+-- the base of a Drop stays the base, and nothing at or below its version is committed later
+pub drop_kept : (p : Plan) (pos : 0 < p.replicas) (w w' : World) (q : Reach p w) (f : From p w w') (q' : Reach p w') (v : Version) (bs : List BaseEntry) → WasSent w (Drops v bs) →
+    IsBase w v bs × IsBase w' v bs × ((x : Exec) → UpTo x.ver v → Committed w' x → Committed w x)
+drop_kept p pos w w' q f q' v bs t = (
+  drop_base p pos w q v bs t,
+  drop_base p pos w' q' v bs (sent_later p w w' f _ t),
+  λ x u c. elim (drop_settles_now p pos w q v bs t x u) [
+    | inl d ↦ d
+    | inr l ↦ absurd (apart_locks p pos w' q' (safe_reach p pos w' q') x (lock_later p pos w w' q f x l) (committed_sent p pos w' q' x c))
+  ],
+)
 
 pub drop_settles : DropSettles
 drop_settles p pos events v bs x t u = drop_settles_now p pos (replay_from p first_world events) (events_reach p first_world first_world Begins events) v bs t x u

@@ -16,8 +16,10 @@ pub mod Cuts
 pub mod Agreed
 pub mod Based
 pub mod Tried
+pub mod Spoke
 pub mod Invariants
 pub mod Rising
 pub mod Unique
 pub mod Absent
 pub mod Listed
+pub mod Settled

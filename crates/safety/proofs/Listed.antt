@@ -20,6 +20,7 @@ use Rattle.protocol.specs.Base.{entries_of, kept_entries}
 use Rattle.protocol.specs.World.{Plan, World, first_world, replay_from}
 use Rattle.protocol.specs.Decided.{decided_by, WasSent, Committed, IsOf, IsWrite, IsBase}
 use Rattle.protocol.specs.Outcome.{nodes, is_commit_choice, is_committed, CommittedExec, put_committed, sorted_committed, attempt_at, of_attempt, committed_in, committed_executions, kept_of, base_at}
+use Rattle.safety.specs.Bases.{BaseOfDrop}
 use Rattle.safety.specs.Outcome.{IsRisingByExec, IsCommittedAs, IsCommittedList, CommittedList, BaseAt}
 use Rattle.protocol.proofs.Orders.{exec_is, same_version_tells}
 use Rattle.protocol.proofs.Members.{map_in, flat_map_in, IsIn-map, IsIn-flat_map}
@@ -30,10 +31,10 @@ use Rattle.protocol_steps.proofs.Reach.From.{Begins}
 use Rattle.safety.proofs.Cuts.{one_content}
 use Rattle.safety.proofs.Entries.{puts_hold, puts_of}
 use Rattle.safety.proofs.Agreed.{safe_reach}
-use Rattle.safety.proofs.Based.{committed_sent, puts_rising}
+use Rattle.safety.proofs.Based.{committed_sent, puts_rising, drop_kept}
 use Rattle.safety.proofs.Tried.{committed_prepared, tried, one_attempt}
 use Rattle.safety.proofs.Rising.{IsStrict, same_members}
-use Rattle.safety.proofs.Unique.{base_is_one}
+use Rattle.safety.proofs.Unique.{base_one}
 use Rattle.safety.proofs.Absent.{decider}
 
 -- the order of executions
@@ -235,4 +236,13 @@ committed_list p pos events = let w = replay_from p first_world events in let q 
 
 pub base_at_is : BaseAt
 base_at_is p pos events v = let w = replay_from p first_world events in let q = events_reach p first_world first_world Begins events in
-    record { holds = base_is p pos w q v; one = λ bs b. base_is_one p pos events v bs (base_at p w v) b (base_is p pos w q v) }
+    record { holds = base_is p pos w q v; one = λ bs b. base_one p pos w q v bs (base_at p w v) b (base_is p pos w q v) }
+
+pub base_of_drop : BaseOfDrop
+base_of_drop p pos events more v bs t =
+    let w = replay_from p first_world events in
+    let w' = replay_from p w more in
+    let q = events_reach p first_world first_world Begins events in
+    let q' = events_reach p first_world w q more in
+    let h = drop_kept p pos w w' q (events_reach p w w Begins more) q' v bs t in
+    (base_one p pos w q v bs (base_at p w v) h.0 (base_is p pos w q v), base_one p pos w' q' v bs (base_at p w' v) h.1 (base_is p pos w' q' v), h.2)

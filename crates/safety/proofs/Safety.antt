@@ -29,13 +29,13 @@ use Rattle.protocol_steps.proofs.Reach.From.{Next}
 use Rattle.protocol_steps.proofs.Facts.{AcceptedFact, ToldFact}
 use Rattle.protocol_steps.proofs.Provenance.{from_to_all}
 use Rattle.protocol_steps.specs.Executions.{Over}
-use Rattle.protocol_steps.proofs.ClientFacts.{At, HasPrepared, HasProposed, rec_reach}
+use Rattle.protocol_steps.proofs.ClientFacts.{At, HasPrepared, HasProposed, rec_reach, said_new}
 use Rattle.protocol_steps.proofs.WardFacts.{WFact, round_found}
 use Rattle.safety.proofs.One.{prepare_from, final_from, FinalFrom, not_at, IsOpen, running_between, open_between, running_prepared, open_proposed, warden_view}
 use Rattle.safety.proofs.One.FinalFrom.{By_client, By_warden}
 use Rattle.protocol.specs.Decided.{WasSent}
 use Rattle.safety.proofs.Locks.{sent_grows, Closed, Proposals, quorum_map, voted_grows}
-use Rattle.safety.specs.Locks.{VotedCommit, HasAccepted, Shut, AbandonLock, CommitLock}
+use Rattle.safety.specs.Locks.{VotedCommit, HasAccepted, ClientDecided, Shut, AbandonLock, CommitLock}
 use Rattle.safety.specs.Locks.Shut.{Unsent}
 use Rattle.safety.specs.Locks.AbandonLock.{Accepted_abandon, All_shut}
 use Rattle.safety.specs.Locks.CommitLock.{Accepted_commit, Fast}
@@ -125,6 +125,14 @@ module _ (p : Plan) (pos : 0 < p.replicas) (w w' : World) (q : Reach p w) (calm 
   over_now : (cs : ClientActs p w w') (x : Exec) → x ≡ (w.client cs.c).exec → IsUnderWay (w.client cs.c).phase → cs.state.exec ≡ (w.client cs.c).exec → cs.state.phase ≡ Between → Over x (w'.client x.ver.client)
   over_now cs x e u f g = subst (λ (c : ℕ). Over x (w'.client c)) (sym (own cs x e u)) (subst (λ (h : ℕ → ClientState). Over x (h cs.c)) (sym cs.client) (subst (λ (z : ClientState). Over x z) (sym (at_same cs.c cs.state w.client)) (inr (e ∙ sym f, g))))
 
+  -- the client decides it now
+  decides_now : (cs : ClientActs p w w') (x : Exec) (d : Choice) (o : Option Content) → x ≡ (w.client cs.c).exec → IsUnderWay (w.client cs.c).phase → cs.sent ≡ Decide x d o ∷ [] → ClientDecided w' x d
+  decides_now cs x d o e u q' =
+      let here : IsIn (record { exec = x; choice = d }) cs.state.decisions = said_new (rules p cs.c) (GotAt w cs.c) (w.client cs.c) cs.state cs.sent (rec_reach p w q cs.c) cs.act (Decide x d o) (subst (λ (l : List Body). IsIn (Decide x d o) l) (sym q') (inl refl)) in
+      subst (λ (c : ℕ). IsIn (record { exec = x; choice = d }) (w'.client c).decisions) (sym (own cs x e u))
+      (subst (λ (h : ℕ → ClientState). IsIn (record { exec = x; choice = d }) (h cs.c).decisions) (sym cs.client)
+      (subst (λ (z : ClientState). IsIn (record { exec = x; choice = d }) z.decisions) (sym (at_same cs.c cs.state w.client)) here))
+
   prepared_under : (z : Phase) (k : Content) (vs : List CountedVote) (o : Option Choice) (acs : List ℕ) → z ≡ Prepared k vs o acs → IsUnderWay z
   prepared_under z k vs o acs e = subst IsUnderWay (sym e) tt
 
@@ -141,7 +149,7 @@ module _ (p : Plan) (pos : 0 < p.replicas) (w w' : World) (q : Reach p w) (calm 
 
   -- all voted Commit, and the client proposed nothing
   fast : (cs : ClientActs p w w') (x : Exec) (k' : Option Content) (k : Content) (vs : List CountedVote) (acs : List ℕ) → (w.client cs.c).phase ≡ Prepared k vs None acs → p.replicas ≤ count_votes is_commit_vote vs → x ≡ (w.client cs.c).exec → cs.state.exec ≡ (w.client cs.c).exec → cs.state.phase ≡ Between → cs.sent ≡ Decide x ToCommit k' ∷ [] → CommitLock p.replicas w' x × Quorum p.replicas (VotedCommit w' x)
-  fast cs x k' k vs acs ph l e f g sent = (Fast voted (over_now cs x e (prepared_under _ k vs None acs ph) f g) (λ d o t. unproposed d o (news_of cs (Finalize x 0 d o) _ sent (λ z. cc) t)), everyone p.replicas _ pos voted)
+  fast cs x k' k vs acs ph l e f g sent = (Fast voted (decides_now cs x ToCommit k' e (prepared_under _ k vs None acs ph) sent) (λ d o t. unproposed d o (news_of cs (Finalize x 0 d o) _ sent (λ z. cc) t)), everyone p.replicas _ pos voted)
     where
       voted : (r : ℕ) → 0 < r → r ≤ p.replicas → VotedCommit w' x r
       voted r a b = voted_grows p w w' st x Commit r (subst (λ (z : Exec). VotedCommit w z r) (sym e) (all_voted p.replicas w _ k vs None acs ((evident_reach p pos w q cs.c).phase k vs None acs ph) l r a b))

@@ -1,4 +1,4 @@
-use Rattle.std.proofs.Common.{◌≡◌, ℕ, ◌<◌, ◌≤◌, ◌+◌, ◌*◌, ◌⊎◌, ◌≢◌, inl, inr, refl, ap, sym, ◌∙◌, subst, true, false, Bool, cond, List, ◌∷◌, ◌++◌, Option, Some, arith}
+use Rattle.std.proofs.Common.{◌≡◌, ℕ, ◌<◌, ◌≤◌, ◌+◌, ◌*◌, ◌⊎◌, ◌≢◌, inl, inr, refl, ap, sym, ◌∙◌, subst, true, false, Bool, cond, List, ◌∷◌, ◌++◌, Option, Some, None, arith}
 use Rattle.std.specs.Prelude.{option_map, ◌==◌}
 use Rattle.std.specs.Option.{is_none}
 use Rattle.morty_base.specs.declared.names.Exec.{Exec}
@@ -38,7 +38,7 @@ use Rattle.protocol.specs.Decided.{UpTo, WasSent}
 use Rattle.protocol_steps.proofs.Dropped.{up_to_trans, later_left, true_false, takes_above, cast_above_none}
 use Rattle.safety.proofs.Bases.{Bases, dropped_conflict}
 use Rattle.msg.specs.declared.Kept.{Kept}
-use Rattle.protocol_steps.proofs.ClientFacts.{act_over, rec_reach}
+use Rattle.protocol_steps.proofs.ClientFacts.{act_over, rec_reach, said_stays}
 use Rattle.protocol_steps.proofs.WardFacts.{WFact, ward_facts_reach}
 use Rattle.safety.proofs.One.{sent_prepare, sent_finalize, one_reach, IsOpen, running_between, open_between, earlier_itself, warden_view}
 use Rattle.safety.proofs.Locks.{sent_grows, Closed, replica_grows, voted_grows, accepted_grows, quorum_map, cast_prepare}
@@ -68,6 +68,14 @@ news p w w' q (Warden_acts s) b t = elim (IsIn-cases t.envelope w.mail _ (rw s.m
   | inl i ↦ Old (record { envelope = t.envelope; there = i; body = t.body })
   | inr i ↦ let k = from_parcels p.replicas (Warden s.k) s.sent t.envelope i in Of_warden s k.1 k.2 (sym t.body ∙ k.3) (subst (WFact p.wardens s.k (w'.warden s.k)) t.body ((ward_facts_reach p w' (Next w w' q (Warden_acts s))).said t.envelope s.k t.there k.0))
 ]
+
+-- what a client decided stays
+pub decision_grows : (p : Plan) (w w' : World) → Step p w w' → (c : ℕ) (x : Exec) (d : Choice) → IsIn (record { exec = x; choice = d }) (w.client c).decisions → IsIn (record { exec = x; choice = d }) (w'.client c).decisions
+decision_grows p w w' (Stands s) c x d i = rw s.client i
+decision_grows p w w' (Replica_acts s) c x d i = rw s.client i
+decision_grows p w w' (Warden_acts s) c x d i = rw s.client i
+decision_grows p w w' (Client_acts s) c x d i = rw s.client (at_cases (λ (z : ClientState). IsIn (record { exec = x; choice = d }) z.decisions) s.c s.state w.client c
+    (λ e. said_stays (rules p s.c) (GotAt w s.c) (w.client s.c) s.state s.sent s.act (Decide x d None) (subst (λ (j : ℕ). IsIn (record { exec = x; choice = d }) (w.client j).decisions) e i)) i)
 
 -- what is over stays over
 pub over_grows : (p : Plan) (w w' : World) → Step p w w' → (x : Exec) (c : ℕ) → Over x (w.client c) → Over x (w'.client c)
@@ -205,7 +213,9 @@ abandon_lock_stays p w w' q s c x (All_shut a) = All_shut (quorum_map _ _ _ (λ 
 
 pub commit_lock_stays : (p : Plan) (w w' : World) → Reach p w → Step p w w' → (x : Exec) → CommitLock p.replicas w x → CommitLock p.replicas w' x
 commit_lock_stays p w w' q s x (Accepted_commit v a) = Accepted_commit v (quorum_map _ _ _ (λ r h. accepted_grows p w w' s x v ToCommit r h) a)
-commit_lock_stays p w w' q s x (Fast all over none) = Fast (λ r a b. voted_grows p w w' s x Commit r (all r a b)) (over_grows p w w' s x x.ver.client over) (λ d o t. none d o (no_finalize p w w' q s x over d o t))
+commit_lock_stays p w w' q s x (Fast all decides none) =
+    Fast (λ r a b. voted_grows p w w' s x Commit r (all r a b)) (decision_grows p w w' s x.ver.client x ToCommit decides)
+    (λ d o t. none d o (no_finalize p w w' q s x ((rec_reach p w q x.ver.client).done (record { exec = x; choice = ToCommit }) decides).1 d o t))
 
 -- a view that is promised is past: nothing more is accepted in it
 closed_cons : (x : Exec) (u : ℕ) (d : Choice) (h : Handled) (m : Envelope) → (u < promised h x) × ((c : Choice) → (a : Acceptance) × IsIn a (acceptances h) × (a.exec ≡ x) × (a.view ≡ u) × (a.choice ≡ c) → c ≡ d) → (u < promised (m ∷ h) x) × ((c : Choice) → (a : Acceptance) × IsIn a (acceptances (m ∷ h)) × (a.exec ≡ x) × (a.view ≡ u) × (a.choice ≡ c) → c ≡ d)

@@ -50,7 +50,8 @@ module _ (p : Plan) (pos : 0 < p.replicas) (w : World) (q : Reach p w) where
       let low : wid_before d.wid e.0.wid ≡ false = subst (λ (z : BaseEntry). wid_before z.wid e.0.wid ≡ false) back f.3 in
       subst (λ (z : BaseEntry). IsIn z cs) (sym (write_one v d e.0 (b.only d i) (c.only e.0 e.1) low e.3)) e.1
 
+  pub base_one : (v : Version) (bs cs : List BaseEntry) → IsBase w v bs → IsBase w v cs → bs ≡ cs
+  base_one v bs cs b c = same_members (λ (d e : BaseEntry). key_before d.key e.key) keys_strict bs cs b.rising c.rising (into v bs cs b c) (into v cs bs c b)
+
 pub base_is_one : BaseIsOne
-base_is_one p pos events v bs cs b c =
-    let w = replay_from p first_world events in let q = events_reach p first_world first_world Begins events in
-    same_members (λ (d e : BaseEntry). key_before d.key e.key) keys_strict bs cs b.rising c.rising (into p pos w q v bs cs b c) (into p pos w q v cs bs c b)
+base_is_one p pos events v bs cs b c = base_one p pos (replay_from p first_world events) (events_reach p first_world first_world Begins events) v bs cs b c
