@@ -1,5 +1,4 @@
-use Rattle.std.proofs.Common.{◌≡◌, ℕ, ◌<◌, ◌⊎◌, ◌≢◌, inl, inr, refl, sym, ◌∙◌, subst, true, false, Bool, cond, List, ◌∷◌, Option, Some, None}
-use Rattle.std.specs.Prelude.{option_map}
+use Rattle.std.proofs.Common.{◌≡◌, ℕ, ◌<◌, ◌⊎◌, ◌≢◌, inl, inr, refl, sym, ◌∙◌, subst, true, false, Bool, cond, List, ◌∷◌, Option, Some}
 use Rattle.std.specs.List.{find, list_any}
 use Rattle.morty_base.specs.declared.names.Exec.{Exec}
 use Rattle.morty_base.specs.declared.names.Version.{Version}
@@ -26,7 +25,7 @@ use Rattle.protocol.proofs.Grows.{decided_stays}
 use Rattle.protocol.proofs.Members.{IsIn-cases, at_cases}
 use Rattle.protocol.specs.Quorums.{Quorum}
 use Rattle.protocol.proofs.Quorums.{quorums_meet}
-use Rattle.protocol_steps.proofs.Known.{found}
+use Rattle.protocol_steps.proofs.Known.{mapped_some, found}
 use Rattle.protocol_steps.proofs.Votes.{new_vote, verdict_commit, earlier_settled, final_conflict, conflicts_both_ways, no_conflict_alike}
 use Rattle.protocol_steps.proofs.Mail.{took_reach}
 use Rattle.protocol_steps.proofs.Reach.{Step, Reach, events_reach, GotAt, HeardAt}
@@ -280,23 +279,15 @@ module _ (p : Plan) (pos : 0 < p.replicas) where
 
   -- what a node decided was sent
   pub decided_by_sent : (w : World) → Reach p w → (n : NodeId) (x : Exec) (d : Choice) → decided_by w n x ≡ Some d → (o : Option Content) × WasSent w (Decide x d o)
-  decided_by_sent w q (Client c) x d e = let f = some_of (λ (y : Decision). y.choice) (find (λ (y : Decision). same_exec x y.exec) (w.client c).decisions) d e in
+  decided_by_sent w q (Client c) x d e = let f = mapped_some (λ (y : Decision). y.choice) (find (λ (y : Decision). same_exec x y.exec) (w.client c).decisions) d e in
       let i = found (λ (y : Decision). y.exec) x (w.client c).decisions f.0 f.1 in
       let s = (decisions_reach p pos w q c).sent f.0 i.0 in
       (s.0, subst (λ (y : Exec). WasSent w (Decide y d s.0)) i.1 (subst (λ (y : Choice). WasSent w (Decide f.0.exec y s.0)) f.2 s.1))
-    where
-      some_of : {A B : Type 0} (f : A → B) (o : Option A) (b : B) → option_map f o ≡ Some b → (a : A) × (o ≡ Some a) × (f a ≡ b)
-      some_of f None b e = cc
-      some_of f (Some a) b e = (a, refl, cc)
   decided_by_sent w q (Replica r) x d e = decided_sent p w q x d r e
-  decided_by_sent w q (Warden k) x d e = let f = some_of (λ (y : DecidedProposal). y.proposal.choice) (decision_on (w.warden k) x) d e in
+  decided_by_sent w q (Warden k) x d e = let f = mapped_some (λ (y : DecidedProposal). y.proposal.choice) (decision_on (w.warden k) x) d e in
       let i = found (λ (y : DecidedProposal). y.exec) x (w.warden k).decisions f.0 f.1 in
       let s = (ward_reach p pos w q k).decision f.0 i.0 in
       (f.0.proposal.content, subst (λ (y : Exec). WasSent w (Decide y d f.0.proposal.content)) i.1 (subst (λ (y : Choice). WasSent w (Decide f.0.exec y f.0.proposal.content)) f.2 s))
-    where
-      some_of : {A B : Type 0} (f : A → B) (o : Option A) (b : B) → option_map f o ≡ Some b → (a : A) × (o ≡ Some a) × (f a ≡ b)
-      some_of f None b e = cc
-      some_of f (Some a) b e = (a, refl, cc)
 
   agreed : (w : World) → Reach p w → (x : Exec) (a b : NodeId) → decided_by w a x ≡ Some Abandon → decided_by w b x ≢ Some ToCommit
   agreed w q x a b e f = let s = safe_reach w q in let d = decided_by_sent w q a x Abandon e in let c = decided_by_sent w q b x ToCommit f in

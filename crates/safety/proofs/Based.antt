@@ -55,10 +55,6 @@ find_in {A = A} name x (y ∷ ys) a (inl z) e = go (same_exec x (name y)) (subst
     go false q = cc
 find_in name x (y ∷ ys) a (inr i) e = finds_cons (same_exec x (name y)) y _ (find_in name x ys a i e)
 
-choice_cases : (c : Choice) → (c ≡ Abandon) ⊎ (c ≡ ToCommit)
-choice_cases Abandon = inl refl
-choice_cases ToCommit = inr refl
-
 module _ (p : Plan) (pos : 0 < p.replicas) (w : World) (q : Reach p w) where
   pub committed_sent : (x : Exec) → Committed w x → CommitSent w x
   committed_sent x c = decided_by_sent p pos w q c.node x ToCommit c.decides

@@ -1,5 +1,7 @@
+use Rattle.protocol.proofs.Quorums.{named_quorum}
+use Rattle.protocol_steps.proofs.Known.{choice_cases}
 use Rattle.std.proofs.Common.{[], ◌≡◌, ℕ, ◌<◌, ◌≤◌, ◌⊎◌, ◌≢◌, inl, inr, refl, ap, sym, ◌∙◌, subst, true, false, Bool, cond, List, ◌∷◌, ◌++◌, Option, Some, None, length}
-use Rattle.std.specs.Prelude.{suc, map, flat_map, not}
+use Rattle.std.specs.Prelude.{map, flat_map, not}
 use Rattle.std.specs.Option.{is_some}
 use Rattle.std.specs.List.{list_any, list_all}
 use Rattle.morty_base.specs.declared.names.Exec.{Exec}
@@ -95,23 +97,8 @@ module _ (p : Plan) (pos : 0 < p.replicas) (w : World) (q : Reach p w) (s : Safe
     fact : (a : FencedAnswer) → IsIn a t.answers → FencedPartFact p.replicas w t.w a
     fact a i = ((ward_reach p pos w q k).trunc t there).answer a i
 
-    in_map : (r : ℕ) (us : List FencedAnswer) → IsIn r (map (λ (a : FencedAnswer). a.replica) us) → (a : FencedAnswer) × IsIn a us × (a.replica ≡ r)
-    in_map r [] i = absurd i
-    in_map r (u ∷ us) (inl e) = (u, inl refl, sym e)
-    in_map r (u ∷ us) (inr i) = let k = in_map r us i in (k.0, inr k.1, k.2)
-
-    length_map : (us : List FencedAnswer) → length (map (λ (a : FencedAnswer). a.replica) us) ≡ length us
-    length_map [] = refl
-    length_map (u ∷ us) = ap suc (length_map us)
-
     answerers : Quorum p.replicas Answered
-    answerers = record {
-      members = map (λ (a : FencedAnswer). a.replica) t.answers;
-      distinct = ((ward_reach p pos w q k).trunc t there).answerers;
-      ranged = λ r i. let k = in_map r t.answers i in subst (λ z. (0 < z) × (z ≤ p.replicas)) k.2 (fact k.0 k.1).0;
-      each = λ r i. in_map r t.answers i;
-      many = rw length_map many;
-    }
+    answerers = named_quorum (λ (a : FencedAnswer). a.replica) p.replicas t.answers ((ward_reach p pos w q k).trunc t there).answerers (λ a i. (fact a i).0) many
 
     -- each committed execution at or below the version is named
     pub named_fact : (x : Exec) → UpTo x.ver t.w → CommitSent w x → IsNamed w t x
@@ -166,10 +153,6 @@ module _ (p : Plan) (pos : 0 < p.replicas) (w : World) (q : Reach p w) (s : Safe
 
       settled_sent : (x : Exec) (d : DecidedProposal) → decision_on (w.warden k) x ≡ Some d → WasSent w (Decide x d.proposal.choice d.proposal.content)
       settled_sent x d e = let f = found (λ (y : DecidedProposal). y.exec) x (w.warden k).decisions d e in subst (λ (y : Exec). WasSent w (Decide y d.proposal.choice d.proposal.content)) f.1 ((ward_reach p pos w q k).decision d f.0)
-
-      choice_cases : (c : Choice) → (c ≡ Abandon) ⊎ (c ≡ ToCommit)
-      choice_cases Abandon = inl refl
-      choice_cases ToCommit = inr refl
 
       stand_cut : (x : Exec) → Stand x → CommitSent w x ⊎ AbandonLock p.replicas w x
       stand_cut x (In_committed a c i j e) = let g = ((fact a i).1.committed c j).0 in inl (Some c.content, subst (λ (y : Exec). WasSent w (Decide y ToCommit (Some c.content))) e (commit_sent p w q a.replica c g))

@@ -21,6 +21,7 @@ use Rattle.protocol.specs.Warden.{ToldAnswer, Proposal, WardenState}
 use Rattle.protocol.specs.Recovery.{fixed}
 use Rattle.protocol.specs.World.{Plan, World, rules, warden_rules}
 use Rattle.protocol.proofs.Members.{IsIn-cases, at_same}
+use Rattle.protocol_steps.proofs.Phases.{running_under_way, prepared_under_way}
 use Rattle.protocol_steps.proofs.Acts.{IsRunning, IsUnderWay}
 use Rattle.protocol_steps.proofs.Acts.Reason.{All_commit, One_final, By_quorum}
 use Rattle.protocol_steps.proofs.Reach.{Step, Reach, ClientActs, WardenActs, GotAt, HeardAt}
@@ -39,7 +40,7 @@ use Rattle.safety.specs.Locks.{VotedCommit, HasAccepted, ClientDecided, Shut, Ab
 use Rattle.safety.specs.Locks.Shut.{Unsent}
 use Rattle.safety.specs.Locks.AbandonLock.{Accepted_abandon, All_shut}
 use Rattle.safety.specs.Locks.CommitLock.{Accepted_commit, Fast}
-use Rattle.safety.proofs.Stays.{Calm, News, news, shut_stays, closed_stays, abandon_lock_stays, commit_lock_stays, running_under}
+use Rattle.safety.proofs.Stays.{Calm, News, news, shut_stays, closed_stays, abandon_lock_stays, commit_lock_stays}
 use Rattle.safety.proofs.Stays.News.{Old, Of_replica, Of_client, Of_warden}
 use Rattle.safety.proofs.Evidence.{evident_reach}
 use Rattle.safety.proofs.WardEvidence.{PartFact, ward_reach}
@@ -133,23 +134,20 @@ module _ (p : Plan) (pos : 0 < p.replicas) (w w' : World) (q : Reach p w) (calm 
       (subst (λ (h : ℕ → ClientState). IsIn (record { exec = x; choice = d }) (h cs.c).decisions) (sym cs.client)
       (subst (λ (z : ClientState). IsIn (record { exec = x; choice = d }) z.decisions) (sym (at_same cs.c cs.state w.client)) here))
 
-  prepared_under : (z : Phase) (k : Content) (vs : List CountedVote) (o : Option Choice) (acs : List ℕ) → z ≡ Prepared k vs o acs → IsUnderWay z
-  prepared_under z k vs o acs e = subst IsUnderWay (sym e) tt
-
   -- the client gave up: nothing of x was prepared, and nothing will be
   gave_up : (cs : ClientActs p w w') (x : Exec) (k' : Option Content) → IsRunning (w.client cs.c).phase → x ≡ (w.client cs.c).exec → cs.state.exec ≡ (w.client cs.c).exec → cs.state.phase ≡ Between → cs.sent ≡ Decide x Abandon k' ∷ [] → AbandonLock p.replicas w' x
-  gave_up cs x k' run e f g sent = All_shut (everyone p.replicas _ pos (λ r a b. Unsent (λ k t. unsent k (news_of cs (Prepare x k) _ sent (λ z. cc) t)) (over_now cs x e (running_under _ run) f g)))
+  gave_up cs x k' run e f g sent = All_shut (everyone p.replicas _ pos (λ r a b. Unsent (λ k t. unsent k (news_of cs (Prepare x k) _ sent (λ z. cc) t)) (over_now cs x e (running_under_way _ run) f g)))
     where
       unsent : (k : Content) → WasSent w (Prepare x k) → ⊥
       unsent k t = let h = prepare_from p w q t.envelope x k t.there t.body in
-          not_at (HasPrepared k) x (w.client cs.c) e (running_between _ run) (running_prepared k _ run) (subst (λ (c : ℕ). At (HasPrepared k) x (w.client c)) (own cs x e (running_under _ run)) h.1)
+          not_at (HasPrepared k) x (w.client cs.c) e (running_between _ run) (running_prepared k _ run) (subst (λ (c : ℕ). At (HasPrepared k) x (w.client c)) (own cs x e (running_under_way _ run)) h.1)
 
   open_prepared : (z : Phase) (k : Content) (vs : List CountedVote) (acs : List ℕ) → z ≡ Prepared k vs None acs → IsOpen z
   open_prepared z k vs acs e = subst IsOpen (sym e) tt
 
   -- all voted Commit, and the client proposed nothing
   fast : (cs : ClientActs p w w') (x : Exec) (k' : Option Content) (k : Content) (vs : List CountedVote) (acs : List ℕ) → (w.client cs.c).phase ≡ Prepared k vs None acs → p.replicas ≤ count_votes is_commit_vote vs → x ≡ (w.client cs.c).exec → cs.state.exec ≡ (w.client cs.c).exec → cs.state.phase ≡ Between → cs.sent ≡ Decide x ToCommit k' ∷ [] → CommitLock p.replicas w' x × Quorum p.replicas (VotedCommit w' x)
-  fast cs x k' k vs acs ph l e f g sent = (Fast voted (decides_now cs x ToCommit k' e (prepared_under _ k vs None acs ph) sent) (λ d o t. unproposed d o (news_of cs (Finalize x 0 d o) _ sent (λ z. cc) t)), everyone p.replicas _ pos voted)
+  fast cs x k' k vs acs ph l e f g sent = (Fast voted (decides_now cs x ToCommit k' e (prepared_under_way _ k vs None acs ph) sent) (λ d o t. unproposed d o (news_of cs (Finalize x 0 d o) _ sent (λ z. cc) t)), everyone p.replicas _ pos voted)
     where
       voted : (r : ℕ) → 0 < r → r ≤ p.replicas → VotedCommit w' x r
       voted r a b = voted_grows p w w' st x Commit r (subst (λ (z : Exec). VotedCommit w z r) (sym e) (all_voted p.replicas w _ k vs None acs ((evident_reach p pos w q cs.c).phase k vs None acs ph) l r a b))
@@ -158,7 +156,7 @@ module _ (p : Plan) (pos : 0 < p.replicas) (w w' : World) (q : Reach p w) (calm 
       unproposed d o t = go (final_from p w q t.envelope x 0 d o t.there t.body)
         where
           go : FinalFrom p w t.envelope x 0 d o → ⊥
-          go (By_client m z h) = not_at (HasProposed d o) x (w.client cs.c) e (open_between _ (open_prepared _ k vs acs ph)) (open_proposed d o _ (open_prepared _ k vs acs ph)) (subst (λ (c : ℕ). At (HasProposed d o) x (w.client c)) (own cs x e (prepared_under _ k vs None acs ph)) h)
+          go (By_client m z h) = not_at (HasProposed d o) x (w.client cs.c) e (open_between _ (open_prepared _ k vs acs ph)) (open_proposed d o _ (open_prepared _ k vs acs ph)) (subst (λ (c : ℕ). At (HasProposed d o) x (w.client c)) (own cs x e (prepared_under_way _ k vs None acs ph)) h)
           go (By_warden j z range a h i) = let v = warden_view p w q j x 0 a h in let y : 0 ≡ j + v.0 * p.wardens = v.1 in let l = range.0 in omega (arith, y, l)
 
   -- a quorum accepted the client's proposal

@@ -1,5 +1,5 @@
 -- What a node decided stays.
-use Rattle.std.proofs.Common.{◌≡◌, ℕ, ◌<◌, refl, ap, sym, ◌∙◌, subst, List, Option, Some, None}
+use Rattle.std.proofs.Common.{◌≡◌, ℕ, ◌<◌, refl, ap, sym, ◌∙◌, subst, List, Option, Some}
 use Rattle.std.specs.Prelude.{option_map, find}
 use Rattle.morty_base.specs.declared.names.Exec.{Exec}
 use Rattle.morty_base.specs.declared.names.NodeId.{NodeId}
@@ -17,7 +17,7 @@ use Rattle.protocol.specs.World.{Plan, World, first_world, replay_from, warden_r
 use Rattle.protocol.specs.Decided.{decided_by, WasSent}
 use Rattle.protocol.proofs.Grows.{decided_stays}
 use Rattle.protocol.proofs.Members.{at_cases}
-use Rattle.protocol_steps.proofs.Known.{found, some_from}
+use Rattle.protocol_steps.proofs.Known.{mapped_some, found, some_from}
 use Rattle.protocol_steps.proofs.Reach.{Step, Reach, From, from_trans, events_reach, HeardAt}
 use Rattle.protocol_steps.proofs.Reach.Step.{Stands, Client_acts, Replica_acts, Warden_acts}
 use Rattle.protocol_steps.proofs.Reach.From.{Begins, Next}
@@ -28,11 +28,6 @@ use Rattle.safety.proofs.Stays.{decision_grows}
 use Rattle.safety.proofs.Cuts.{apart_locks}
 use Rattle.safety.proofs.Agreed.{safe_reach, decided_by_sent}
 use Rattle.safety.proofs.Based.{find_in}
-
--- an option that a function turns into a value
-some_of : {A B : Type 0} (f : A → B) (o : Option A) (b : B) → option_map f o ≡ Some b → (a : A) × (o ≡ Some a) × (f a ≡ b)
-some_of f None b e = cc
-some_of f (Some a) b e = (a, refl, cc)
 
 -- what a warden decided stays
 ward_decision_grows : (p : Plan) (w w' : World) → Reach p w → Step p w w' → (k : ℕ) (x : Exec) (d : Choice) (o : Option Content) → IsIn (record { exec = x; proposal = record { choice = d; content = o } }) (w.warden k).decisions → IsIn (record { exec = x; proposal = record { choice = d; content = o } }) (w'.warden k).decisions
@@ -57,12 +52,12 @@ module _ (p : Plan) (pos : 0 < p.replicas) where
   decides_still : (w w' : World) → Reach p w → Step p w w' → (n : NodeId) (x : Exec) (d : Choice) → decided_by w n x ≡ Some d → (e : Choice) × (decided_by w' n x ≡ Some e)
   decides_still w w' q st (Replica r) x d e = (d, replica_grows p w w' st (λ (h : Handled). decided h x ≡ Some d) (λ h m f. decided_stays h m x d f) r e)
   decides_still w w' q st (Client c) x d e =
-      let f = some_of (λ (y : Decision). y.choice) (find (λ (y : Decision). same_exec x y.exec) (w.client c).decisions) d e in
+      let f = mapped_some (λ (y : Decision). y.choice) (find (λ (y : Decision). same_exec x y.exec) (w.client c).decisions) d e in
       let i = found (λ (y : Decision). y.exec) x (w.client c).decisions f.0 f.1 in
       let same : f.0 ≡ record { exec = x; choice = d } = λ z. record { exec = i.1 z; choice = f.2 z } in
       client_finds x d (w'.client c).decisions (decision_grows p w w' st c x d (subst (λ (y : Decision). IsIn y (w.client c).decisions) same i.0))
   decides_still w w' q st (Warden k) x d e =
-      let f = some_of (λ (y : DecidedProposal). y.proposal.choice) (decision_on (w.warden k) x) d e in
+      let f = mapped_some (λ (y : DecidedProposal). y.proposal.choice) (decision_on (w.warden k) x) d e in
       let i = found (λ (y : DecidedProposal). y.exec) x (w.warden k).decisions f.0 f.1 in
       ward_finds x (w'.warden k) f.0 (ward_decision_grows p w w' q st k f.0.exec f.0.proposal.choice f.0.proposal.content i.0) i.1
 

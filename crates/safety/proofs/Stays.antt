@@ -1,5 +1,5 @@
-use Rattle.std.proofs.Common.{◌≡◌, ℕ, ◌<◌, ◌≤◌, ◌+◌, ◌*◌, ◌⊎◌, ◌≢◌, inl, inr, refl, ap, sym, ◌∙◌, subst, true, false, Bool, cond, List, ◌∷◌, ◌++◌, Option, Some, None, arith}
-use Rattle.std.specs.Prelude.{option_map, ◌==◌}
+use Rattle.std.proofs.Common.{◌≡◌, ℕ, ◌<◌, ◌≤◌, ◌+◌, ◌*◌, ◌≢◌, inl, inr, refl, sym, ◌∙◌, subst, true, false, Bool, cond, List, ◌∷◌, Option, Some, None, arith}
+use Rattle.std.specs.Prelude.{◌==◌}
 use Rattle.std.specs.Option.{is_none}
 use Rattle.morty_base.specs.declared.names.Exec.{Exec}
 use Rattle.morty_base.specs.declared.names.NodeId.TheVariants.{Client, Warden}
@@ -10,21 +10,19 @@ use Rattle.msg.specs.declared.Vote.TheVariants.{Commit}
 use Rattle.msg.specs.declared.Choice.{Choice}
 use Rattle.msg.specs.declared.Choice.TheVariants.{Abandon, Commit as ToCommit}
 use Rattle.msg.specs.declared.Body.TheVariants.{Prepare, Finalize, Decide}
-use Rattle.morty_base.specs.Names.{same_exec}
-use Rattle.protocol.specs.Lists.{IsIn, one_when}
+use Rattle.protocol.specs.Lists.{IsIn}
 use Rattle.protocol.specs.Replica.{Handled, takes, after_taking, promised, Acceptance, acceptances, new_acceptance, decided, commits, dropped, fence, fenced_by, is_above, version_of}
 use Rattle.protocol.specs.Votes.{casts, cast_on, new_cast, vote, Cast, may_vote, verdict, conflicts}
-use Rattle.protocol.specs.Client.{ClientState, Phase}
-use Rattle.protocol.specs.Client.Phase.{Between, Running, Prepared}
+use Rattle.protocol.specs.Client.{ClientState}
+use Rattle.protocol.specs.Client.Phase.{Between}
 use Rattle.protocol.specs.Warden.{Parcel}
 use Rattle.protocol.specs.World.{Plan, World, rules}
 use Rattle.protocol.proofs.Logic.{and_right, some_not_none}
-use Rattle.protocol.proofs.Orders.{same_exec_tells}
 use Rattle.protocol.proofs.Grows.{decided_stays, promised_grows}
 use Rattle.protocol.proofs.Members.{IsIn-right, IsIn-cases, at_cases}
-use Rattle.protocol_steps.proofs.Accepts.{vote_frozen, new_acceptance_is}
+use Rattle.protocol_steps.proofs.Accepts.{vote_stands, vote_frozen, new_acceptance_is}
 use Rattle.protocol_steps.proofs.Spoken.{spoken}
-use Rattle.protocol_steps.proofs.Acts.{IsRunning, IsUnderWay}
+use Rattle.protocol_steps.proofs.Phases.{running_under_way}
 use Rattle.protocol_steps.specs.Executions.{IsEarlier, Over}
 use Rattle.protocol_steps.proofs.Reach.{Step, Reach, ClientActs, WardenActs, GotAt}
 use Rattle.protocol_steps.proofs.Reach.Step.{Stands, Client_acts, Replica_acts, Warden_acts}
@@ -40,7 +38,7 @@ use Rattle.safety.proofs.Bases.{Bases, dropped_conflict}
 use Rattle.msg.specs.declared.Kept.{Kept}
 use Rattle.protocol_steps.proofs.ClientFacts.{act_over, rec_reach, said_stays}
 use Rattle.protocol_steps.proofs.WardFacts.{WFact, ward_facts_reach}
-use Rattle.safety.proofs.One.{sent_prepare, sent_finalize, one_reach, IsOpen, running_between, open_between, earlier_itself, warden_view}
+use Rattle.safety.proofs.One.{open_under, sent_prepare, sent_finalize, one_reach, running_between, open_between, earlier_itself, warden_view}
 use Rattle.safety.proofs.Locks.{sent_grows, Closed, replica_grows, voted_grows, accepted_grows, quorum_map, cast_prepare}
 use Rattle.safety.specs.Locks.{Shut, AbandonLock, CommitLock}
 use Rattle.safety.specs.Locks.Shut.{Voted_other, Has_promised, Has_decided, Fenced_out, Unsent, Conflicting}
@@ -89,16 +87,6 @@ not_over : (x : Exec) (s : ClientState) → x ≡ s.exec → (s.phase ≡ Betwee
 not_over x s e b (inl h) = earlier_itself s.exec (subst (λ z. IsEarlier z s.exec) e h)
 not_over x s e b (inr h) = b h.1
 
-pub running_under : (h : Phase) → IsRunning h → IsUnderWay h
-running_under Between h = absurd h
-running_under (Running a b) h = tt
-running_under (Prepared k v o a) h = absurd h
-
-open_under : (h : Phase) → IsOpen h → IsUnderWay h
-open_under Between h = absurd h
-open_under (Running a b) h = absurd h
-open_under (Prepared k v o a) h = tt
-
 -- of what is over nothing is prepared any more, and nothing proposed by the client
 pub no_prepare : (p : Plan) (w w' : World) → Reach p w → Step p w w' → (x : Exec) → Over x (w.client x.ver.client) → (k : Content) → WasSent w' (Prepare x k) → WasSent w (Prepare x k)
 no_prepare p w w' q s x o k t = go (news p w w' q s (Prepare x k) t)
@@ -108,7 +96,7 @@ no_prepare p w w' q s x o k t = go (news p w w' q s (Prepare x k) t)
     go (Of_replica r f) = absurd f
     go (Of_warden s a i e f) = absurd f
     go (Of_client s i) = let n = sent_prepare (rules p s.c) (GotAt w s.c) (w.client s.c) s.state s.sent s.act x k i in
-        let mine : x.ver.client ≡ s.c = rw n.0 ((rec_reach p w q s.c).own (running_under _ n.1)) in
+        let mine : x.ver.client ≡ s.c = rw n.0 ((rec_reach p w q s.c).own (running_under_way _ n.1)) in
         absurd (not_over x (w.client s.c) n.0 (running_between _ n.1) (subst (λ z. Over x (w.client z)) mine o))
 
 pub no_finalize : (p : Plan) (w w' : World) → Reach p w → Step p w w' → (x : Exec) → Over x (w.client x.ver.client) → (d : Choice) (u : Option Content) → WasSent w' (Finalize x 0 d u) → WasSent w (Finalize x 0 d u)
@@ -137,20 +125,7 @@ taking_cases_vote h m x n c = go (takes h m.body) refl
 
 -- with a decision, nothing is voted any more
 vote_frozen_decided : (h : Handled) (m : Envelope) (x : Exec) (d : Choice) → decided h x ≡ Some d → vote (m ∷ h) x ≡ vote h x
-vote_frozen_decided h m x d p = ap (λ (o : Option Cast). option_map (λ (y : Cast). y.vote) o) (go m.body)
-  where
-    same2 : (z : Exec) (new : Cast) (t : Bool) → may_vote h (casts h) z ≡ true → ((t ≡ true) × (x ≡ z)) ⊎ ((t ≡ false) × (x ≢ z)) → cond t (Some new) (cast_on x (casts h)) ≡ cast_on x (casts h)
-    same2 z new true q (inl e) = absurd (some_not_none (decided h z) d (subst (λ y. decided h y ≡ Some d) e.1 p) (may_vote_undecided h (casts h) z q))
-    same2 z new true q (inr e) = cc
-    same2 z new false q e = refl
-
-    same : (z : Exec) (c : Content) (t : Bool) → may_vote h (casts h) z ≡ t → cast_on x (one_when t (record { exec = z; content = c; vote = verdict h (casts h) z c }) ++ casts h) ≡ cast_on x (casts h)
-    same z c true q = same2 z _ (same_exec x z) q (same_exec_tells x z)
-    same z c false q = refl
-
-    go : (b : Body) → cast_on x (new_cast h (casts h) b ++ casts h) ≡ cast_on x (casts h)
-    go (Prepare z c) = same z c (may_vote h (casts h) z) refl
-    go _ = refl
+vote_frozen_decided h m x d p = vote_stands h m x (λ e. some_not_none (decided h x) d p (may_vote_undecided h (casts h) x e))
 
 -- what the clause on conflicts needs of a world
 pub record Calm (w : World) : Type 0 where

@@ -16,6 +16,7 @@ use Rattle.protocol_steps.specs.Executions.{IsEarlier}
 use Rattle.safety.specs.Tries.{OneExecution, OneTry}
 use Rattle.protocol.proofs.Members.{at_cases, at_same}
 use Rattle.protocol.proofs.Quorums.{quorums_meet}
+use Rattle.protocol_steps.proofs.Phases.{running_under_way}
 use Rattle.protocol_steps.proofs.Acts.{Act, IsRunning, IsAborted, IsOn, TryStep}
 use Rattle.protocol_steps.proofs.Acts.TryStep.{Keeps, Next_exec, Next_try}
 use Rattle.protocol_steps.proofs.Acts.Act.{Quiet, Advances, Prepares, Counts, Proposes, Accepts, Decides, Gives_up, Learns}
@@ -25,7 +26,7 @@ use Rattle.protocol_steps.proofs.Reach.From.{Begins, Next}
 use Rattle.protocol_steps.proofs.ClientFacts.{At, HasPrepared, rec_reach}
 use Rattle.safety.proofs.One.{prepare_from, earlier_itself, not_at, running_between, running_prepared}
 use Rattle.safety.proofs.Locks.{voted_prepared}
-use Rattle.safety.proofs.Stays.{News, news, running_under}
+use Rattle.safety.proofs.Stays.{News, news}
 use Rattle.safety.proofs.Stays.News.{Old, Of_replica, Of_client, Of_warden}
 use Rattle.safety.proofs.Evidence.{decisions_reach}
 use Rattle.safety.proofs.ClientSent.{quiet_not, in_single, in_none}
@@ -57,7 +58,7 @@ step_rec s s' (Next_exec v b a d c run) t = record {
   begun = λ z i y. t.begun z (subst (λ l. IsIn z l) a i) (y ∙ v) ∙ sym b;
   bounded = λ z i. let y = t.bounded z (subst (λ l. IsIn z l) a i) in (subst (λ (x : Version). z.ver.ts ≤ x.ts) (sym v) y.0, subst (λ n. z.txn ≤ n) (sym b) y.1);
   aborted = λ z f. absurd (running_between s'.phase run z);
-  has = λ z. let h = t.has (elim c [ inl y ↦ inl (running_under s.phase y) | inr y ↦ inr y.0 ]) in (h.0, subst (λ l. IsIn h.0 l) (sym a) h.1, h.2 ∙ sym v);
+  has = λ z. let h = t.has (elim c [ inl y ↦ inl (running_under_way s.phase y) | inr y ↦ inr y.0 ]) in (h.0, subst (λ l. IsIn h.0 l) (sym a) h.1, h.2 ∙ sym v);
   falling = subst IsFalling (sym a) t.falling;
 }
 step_rec s s' (Next_try q l a d c run) t = record {
@@ -112,7 +113,7 @@ fresh p w w' q st x k t = go (news p w w' q st _ t)
     go (Of_warden ws a i e f) = absurd f
     go (Of_client cs i) =
         let a = prepares_act (rules p cs.c) (GotAt w cs.c) (w.client cs.c) cs.state cs.sent cs.act x k i in
-        let mine : x.ver.client ≡ cs.c = ap (λ (z : Exec). z.ver.client) a.0 ∙ (rec_reach p w q cs.c).own (running_under _ a.1) in
+        let mine : x.ver.client ≡ cs.c = ap (λ (z : Exec). z.ver.client) a.0 ∙ (rec_reach p w q cs.c).own (running_under_way _ a.1) in
         let after : (w'.client cs.c).exec ≡ (w.client cs.c).exec = ap (λ (f : ℕ → ClientState). (f cs.c).exec) cs.client ∙ ap (λ (z : ClientState). z.exec) (at_same cs.c cs.state w.client) ∙ a.2 in
         inr (subst (λ j. (x ≡ (w.client j).exec) × IsRunning (w.client j).phase × ((w'.client j).exec ≡ (w.client j).exec)) (sym mine) (a.0, a.1, after))
 
@@ -242,7 +243,7 @@ module _ (p : Plan) (w w' : World) (q : Reach p w) (st : Step p w w') (c : ℕ) 
       where
         go : WasSent w (Prepare x k) ⊎ IsNew x → (a : Attempt) × IsIn a (w'.client c).attempts × (a.ver ≡ x.ver)
         go (inl t) = let h = s.has x k t e in (h.0, kept_attempt h.0 h.1, h.2)
-        go (inr n) = let h = (try_rec p w q c).has (inl (running_under (w.client c).phase n.1)) in (h.0, kept_attempt h.0 h.1, h.2 ∙ ap (λ (z : Exec). z.ver) (sym n.0))
+        go (inr n) = let h = (try_rec p w q c).has (inl (running_under_way (w.client c).phase n.1)) in (h.0, kept_attempt h.0 h.1, h.2 ∙ ap (λ (z : Exec). z.ver) (sym n.0))
 
 single_reach : (p : Plan) (w : World) → Reach p w → (c : ℕ) → Single w c
 single_reach p _ Begins c = record { past = λ x k t. absurd t.there; pairs = λ x y k l t. absurd t.there; has = λ x k t. absurd t.there }
