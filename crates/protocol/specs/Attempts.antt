@@ -19,7 +19,10 @@ bumped s = min (s + 1) (2 ^ 64 - 1)
 
 -- where the execution has ended and each read is sure, it is prepared at once
 abbrev pub prepare_when : Rules → ClientState → List Body → Option Ending → Bool → Turn
-prepare_when r c sent (Some e) true = record { state = record c { phase = Prepared (content r c e) [] None [] }; sent = sent ++ Prepare c.exec (content r c e) ∷ [] }
+prepare_when r c sent (Some e) true = record {
+  state = record c { phase = Prepared (content r c e) [] None [] };
+  sent = sent ++ Prepare c.exec (content r c e) ∷ [];
+}
 prepare_when r c sent _ _ = record { state = c; sent = sent }
 
 -- an execution is prepared once it has ended and each of its reads is sure

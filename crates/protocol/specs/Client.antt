@@ -82,7 +82,17 @@ pub record ClientState : Type 0 where
 
 -- a client that has begun nothing
 abbrev pub fresh_client : ClientState
-fresh_client = record { begun = 0; try = 0; exec = record { ver = no_version; eid = 0 }; answers = []; phase = Between; serial = 0; fate = Unbegun; decisions = []; attempts = [] }
+fresh_client = record {
+  begun = 0;
+  try = 0;
+  exec = record { ver = no_version; eid = 0 };
+  answers = [];
+  phase = Between;
+  serial = 0;
+  fate = Unbegun;
+  decisions = [];
+  attempts = [];
+}
 
 -- the next state, and what goes to all replicas, in order
 pub record Turn : Type 0 where

@@ -44,9 +44,12 @@ from_replica c f (Some k) = f k
 unfoldable pub comes_prepared : Rules → ClientState → Content → List CountedVote → Option Choice → List ℕ → NodeId → Body → Turn
 comes_prepared r c k votes proposal accepts from (Note v key wid value sure lost) =
     turn_when (same_version v c.exec.ver) c (idle (note_prepared r c key (record { wid = wid; value = value; sure = sure }) lost))
-comes_prepared r c k votes proposal accepts from (Decide x d content) = turn_when (is_warden from && same_exec x c.exec) c (conclude r c d [])
-comes_prepared r c k votes None accepts from (Voted x v) = from_replica c (λ j. counts_vote r c k votes x j v) (sender r.replicas from)
-comes_prepared r c k votes (Some d) accepts from (Accepted x view) = from_replica c (λ j. counts_accept r c k votes d accepts x view j) (sender r.replicas from)
+comes_prepared r c k votes proposal accepts from (Decide x d content) =
+    turn_when (is_warden from && same_exec x c.exec) c (conclude r c d [])
+comes_prepared r c k votes None accepts from (Voted x v) =
+    from_replica c (λ j. counts_vote r c k votes x j v) (sender r.replicas from)
+comes_prepared r c k votes (Some d) accepts from (Accepted x view) =
+    from_replica c (λ j. counts_accept r c k votes d accepts x view j) (sender r.replicas from)
 comes_prepared r c k votes proposal accepts from _ = idle c
 
 -- an envelope comes; between attempts it changes nothing

@@ -69,12 +69,16 @@ rewound c answers = record c { exec = next_exec c.exec; answers = answers; seria
 unfoldable pub relabelled : ClientState → ClientState
 relabelled c = record c { exec = next_exec c.exec; answers = map moved_on c.answers; phase = Running false false }
 
+-- its Puts, where it ended Done
+abbrev pub puts_again : Rules → ClientState → List Body
+puts_again r c = one_when (may_put (walk r c).ending) (Puts c.exec (walk r c).writes)
+
 -- after an Abandon with a change pending the next execution begins
 unfoldable pub next_execution : Rules → ClientState → List Body → Turn
 next_execution r c sent =
     cond (list_any other_value c.answers)
     (record { state = rewound c (cut c.answers); sent = sent })
-    (prepare_if_ready r (relabelled c) (sent ++ one_when (may_put (walk r (relabelled c)).ending) (Puts (next_exec c.exec) (walk r (relabelled c)).writes)))
+    (prepare_if_ready r (relabelled c) (sent ++ puts_again r (relabelled c)))
 
 -- what follows from a decision on the prepared execution
 unfoldable pub conclude : Rules → ClientState → Choice → List Body → Turn

@@ -1,5 +1,5 @@
 -- The writes that a replica holds of a key, and the latest of them below a version.
-use Rattle.std.specs.Prelude.{ℕ, pos, suc, Bool, true, false, cond, not, ◌&&◌, ◌||◌, ◌==◌, nat_lt, nat_le, List, [], ◌∷◌, ◌++◌, map, filter, length, Option, Some, None, is_none, filter_map}
+use Rattle.std.specs.Prelude.{ℤ, ℕ, pos, suc, Bool, true, false, cond, not, ◌&&◌, ◌||◌, ◌==◌, nat_lt, nat_le, List, [], ◌∷◌, ◌++◌, map, filter, length, Option, Some, None, is_none, filter_map}
 use Rattle.std.specs.List.{list_any}
 use Rattle.morty_base.specs.declared.names.Version.{Version}
 use Rattle.morty_base.specs.declared.names.Exec.{Exec}
@@ -8,16 +8,21 @@ use Rattle.msg.specs.declared.Choice.TheVariants.{Abandon}
 use Rattle.msg.specs.declared.Write.{Write}
 use Rattle.msg.specs.declared.Body.{Body}
 use Rattle.msg.specs.declared.Body.TheVariants.{Puts, Decide}
-use Rattle.morty_base.specs.Names.{no_version, before, same_version, same_key, wid_before}
+use Rattle.morty_base.specs.Names.{before, same_version, same_key, wid_before}
 use Rattle.protocol.specs.Lists.{first_of_two, when, one_when}
 use Rattle.protocol.specs.Replica.{Handled, dropped, base, decided, commits}
 use Rattle.protocol.specs.declared.Held.{Held}
 use Rattle.protocol.specs.declared.First2.{First2}
+use Rattle.morty_base.specs.Names.{first_wid}
+
+-- a first value is sure
+abbrev pub first_value : ℤ → Held
+first_value value = record { wid = first_wid; value = value; sure = true }
 
 -- the first value of a key, or 0
 abbrev pub first_held : List First2 → Key → Held
-first_held [] k = record { wid = record { ver = no_version; eid = 0; seq = 0 }; value = pos 0; sure = true }
-first_held (f ∷ fs) k = cond (same_key k f.key) (record { wid = record { ver = no_version; eid = 0; seq = 0 }; value = f.value; sure = true }) (first_held fs k)
+first_held [] k = first_value (pos 0)
+first_held (f ∷ fs) k = cond (same_key k f.key) (first_value f.value) (first_held fs k)
 
 -- the last write of k among those of x, where i is the place of the first of them
 abbrev pub last_write : Exec → Bool → ℕ → Key → List Write → Option Held

@@ -15,6 +15,7 @@ pub mod Recovery
 pub mod Base
 pub mod Truncation
 pub mod World
+pub mod Programs
 pub mod Decided
 pub mod Outcome
 pub mod Steps

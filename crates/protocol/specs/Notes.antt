@@ -88,9 +88,17 @@ unfoldable pub note_at : Rules → ClientState → Held → Option Wid → Optio
 note_at r c new lost None = idle c
 note_at r c new lost (Some i) = follow_running r c i (answer_at c i) new (effect (answer_at c i).label new lost)
 
+-- the question is answered, and a job with the answer is pending
+abbrev pub answered : ClientState → Held → ClientState
+answered c new = record c {
+  answers = c.answers ++ record { label = new; next = None } ∷ [];
+  phase = Running true true;
+  serial = bumped c.serial;
+}
+
 -- a Note answers the question, or is about an answered read
 unfoldable pub note_on : Rules → ClientState → Key → Held → Option Wid → (asked : Bool) → Turn
-note_on r c k new lost true = idle (record c { answers = c.answers ++ record { label = new; next = None } ∷ []; phase = Running true true; serial = bumped c.serial })
+note_on r c k new lost true = idle (answered c new)
 note_on r c k new lost false = note_at r c new lost (place_of k 0 (walk r c).keys)
 
 -- a Note while nothing is prepared: a question stands only where no job is pending

@@ -152,9 +152,8 @@ heard s f (Some k) = f k
 -- about an execution that it has decided a warden takes no more Told and no more Accepted
 unfoldable pub recovery_hears : WardenRules → WardenState → NodeId → Body → WardenTurn
 recovery_hears r s from (Told x v vote accepted decided content) =
-    cond (is_none (decision_on s x))
-    (heard s (λ k. take_told r s x v (record { replica = k; vote = vote; accepted = accepted; decided = decided; content = content }) (round_of x v s.rounds)) (sender r.replicas from))
-    (still s)
+    let told : ℕ → ToldAnswer = λ k. record { replica = k; vote = vote; accepted = accepted; decided = decided; content = content } in
+    cond (is_none (decision_on s x)) (heard s (λ k. take_told r s x v (told k) (round_of x v s.rounds)) (sender r.replicas from)) (still s)
 recovery_hears r s from (Accepted x v) =
     cond (is_none (decision_on s x)) (heard s (λ k. take_accept r s x v k (round_of x v s.rounds)) (sender r.replicas from)) (still s)
 recovery_hears r s from _ = still s

@@ -6,11 +6,10 @@ use Rattle.msg.specs.declared.Event.TheVariants.{Picked, Ran}
 use Rattle.msg.specs.declared.Pick.TheVariants.{Deliver, Go, Hurry, Recover, Truncate, Stop}
 use Rattle.msg.specs.declared.Choice.TheVariants.{Abandon, Commit as ToCommit}
 use Rattle.msg.specs.declared.Body.TheVariants.{Note, Finalize, Accepted, Told, Drop as Drops}
-use Rattle.morty_base.specs.declared.names.Ending.TheVariants.{Done}
 use Rattle.morty_base.specs.Names.{first_wid}
 use Rattle.protocol.specs.World.{World, first_world, replay_from, enabled}
 use Rattle.protocol.specs.Decided.{decided_by}
-use Rattle.protocol.specs.Samples.{x1, exec_of, second_of, wid_of, inc, look, half, only, plan, four}
+use Rattle.protocol.specs.Samples.{x1, version_at, exec_of, second_of, envelope, increased, looked, wid_of, inc, look, half, only, plan, four}
 
 -- three replicas, and a client that waits for two votes alone; replica 3 accepts, though it never voted
 abbrev pub hurried_end : World
@@ -25,8 +24,8 @@ pub record HurriedClient : Type 0 where
   pub envelopes : length hurried_end.mail ≡ 17
   pub events : hurried_end.moved ≡ 14
   pub decision : decided_by hurried_end (Client 1) (exec_of 20 1) ≡ Some ToCommit
-  pub proposal : slice_get hurried_end.mail 9 ≡ Some (record { from = Client 1; to = Replica 1; body = Finalize (exec_of 20 1) 0 ToCommit (Some (record { reads = record { key = x1; wid = first_wid; value = pos 0 } ∷ []; writes = []; out = pos 0 ∷ []; ending = Done })) })
-  pub accepted : slice_get hurried_end.mail 13 ≡ Some (record { from = Replica 3; to = Client 1; body = Accepted (exec_of 20 1) 0 })
+  pub proposal : slice_get hurried_end.mail 9 ≡ Some (envelope (Client 1) (Replica 1) (Finalize (exec_of 20 1) 0 ToCommit (Some (looked (pos 0)))))
+  pub accepted : slice_get hurried_end.mail 13 ≡ Some (envelope (Replica 3) (Client 1) (Accepted (exec_of 20 1) 0))
   pub over : enabled (plan 3 0 (only look 20 ∷ []) [] 1) hurried_end (Picked (Client 1) Hurry) ≡ None
 
 -- a warden that hears of one Commit vote and of a replica without a vote; then that replica gets the Prepare
@@ -42,8 +41,8 @@ abandoning_end = replay_from (plan 3 2 (only inc 10 ∷ []) four 1) first_world 
 pub record WardenAbandons : Type 0 where
   pub envelopes : length abandoning_end.mail ≡ 20
   pub events : abandoning_end.moved ≡ 14
-  pub told : slice_get abandoning_end.mail 16 ≡ Some (record { from = Replica 3; to = Warden 1; body = Told (exec_of 10 1) 1 None None None None })
-  pub proposal : slice_get abandoning_end.mail 17 ≡ Some (record { from = Warden 1; to = Replica 1; body = Finalize (exec_of 10 1) 1 Abandon None })
+  pub told : slice_get abandoning_end.mail 16 ≡ Some (envelope (Replica 3) (Warden 1) (Told (exec_of 10 1) 1 None None None None))
+  pub proposal : slice_get abandoning_end.mail 17 ≡ Some (envelope (Warden 1) (Replica 1) (Finalize (exec_of 10 1) 1 Abandon None))
   pub undecided : decided_by abandoning_end (Client 1) (exec_of 10 1) ≡ None
 
 -- view 1 proposes Abandon, which replica 3 accepts; view 2 proposes Commit, which replica 1 accepts; view 3 hears of both
@@ -65,8 +64,8 @@ three_end = replay_from (plan 3 2 (only inc 10 ∷ []) four 1) first_world (
 pub record ThreeViews : Type 0 where
   pub envelopes : length three_end.mail ≡ 44
   pub events : three_end.moved ≡ 29
-  pub lower : slice_get three_end.mail 33 ≡ Some (record { from = Replica 3; to = Warden 1; body = Told (exec_of 10 1) 3 None (Some (record { view = 1; choice = Abandon })) None None })
-  pub proposal : slice_get three_end.mail 35 ≡ Some (record { from = Warden 1; to = Replica 1; body = Finalize (exec_of 10 1) 3 ToCommit (Some (record { reads = record { key = x1; wid = first_wid; value = pos 4 } ∷ []; writes = record { key = x1; value = pos 5 } ∷ []; out = pos 4 ∷ []; ending = Done })) })
+  pub lower : slice_get three_end.mail 33 ≡ Some (envelope (Replica 3) (Warden 1) (Told (exec_of 10 1) 3 None (Some (record { view = 1; choice = Abandon })) None None))
+  pub proposal : slice_get three_end.mail 35 ≡ Some (envelope (Warden 1) (Replica 1) (Finalize (exec_of 10 1) 3 ToCommit (Some (increased (pos 4)))))
   pub decision : decided_by three_end (Warden 1) (exec_of 10 1) ≡ Some ToCommit
 
 -- client 1 stops after its Puts, which client 2 has read; a warden abandons client 1's execution
@@ -83,8 +82,8 @@ vanished_end = replay_from (plan 1 1 (only half 10 ∷ only look 20 ∷ []) [] 1
 pub record VanishedWrite : Type 0 where
   pub envelopes : length vanished_end.mail ≡ 15
   pub events : vanished_end.moved ≡ 20
-  pub unsure : slice_get vanished_end.mail 3 ≡ Some (record { from = Replica 1; to = Client 2; body = Note (record { ts = 20; client = 2 }) x1 (wid_of 10 1 1) (pos 7) false None })
-  pub gone : slice_get vanished_end.mail 10 ≡ Some (record { from = Replica 1; to = Client 2; body = Note (record { ts = 20; client = 2 }) x1 first_wid (pos 0) true (Some (wid_of 10 1 1)) })
+  pub unsure : slice_get vanished_end.mail 3 ≡ Some (envelope (Replica 1) (Client 2) (Note (version_at 20 2) x1 (wid_of 10 1 1) (pos 7) false None))
+  pub gone : slice_get vanished_end.mail 10 ≡ Some (envelope (Replica 1) (Client 2) (Note (version_at 20 2) x1 first_wid (pos 0) true (Some (wid_of 10 1 1))))
   pub abandoned : decided_by vanished_end (Replica 1) (exec_of 10 1) ≡ Some Abandon
   pub decision : decided_by vanished_end (Replica 1) (second_of 20 2) ≡ Some ToCommit
 
@@ -93,7 +92,7 @@ abbrev pub reader_end : World
 reader_end = replay_from (plan 3 1 (only inc 10 ∷ only look 15 ∷ []) four 10) first_world (
     Picked (Client 1) Go ∷ Ran 1 ∷ Picked (Replica 1) (Deliver 0) ∷ Picked (Client 1) (Deliver 3) ∷ Ran 1 ∷
     Picked (Replica 1) (Deliver 7) ∷ Picked (Replica 2) (Deliver 8) ∷ Picked (Client 2) Go ∷ Ran 2 ∷
-    Picked (Replica 1) (Deliver 12) ∷ Picked (Warden 1) (Truncate (record { ts = 20; client = 0 })) ∷
+    Picked (Replica 1) (Deliver 12) ∷ Picked (Warden 1) (Truncate (version_at 20 0)) ∷
     Picked (Replica 1) (Deliver 16) ∷ Picked (Replica 2) (Deliver 17) ∷ Picked (Warden 1) (Deliver 19) ∷
     Picked (Warden 1) (Deliver 20) ∷ Picked (Replica 1) (Deliver 21) ∷ Picked (Replica 2) (Deliver 22) ∷
     Picked (Warden 1) (Deliver 24) ∷ Picked (Warden 1) (Deliver 25) ∷ Picked (Replica 1) (Deliver 26) ∷
@@ -104,6 +103,6 @@ reader_end = replay_from (plan 3 1 (only inc 10 ∷ only look 15 ∷ []) four 10
 pub record DroppedReader : Type 0 where
   pub envelopes : length reader_end.mail ≡ 38
   pub events : reader_end.moved ≡ 24
-  pub seen : slice_get reader_end.mail 15 ≡ Some (record { from = Replica 1; to = Client 2; body = Note (record { ts = 15; client = 2 }) x1 first_wid (pos 4) true None })
-  pub base : slice_get reader_end.mail 35 ≡ Some (record { from = Warden 1; to = Replica 1; body = Drops (record { ts = 20; client = 0 }) (record { key = x1; wid = wid_of 10 1 1; value = pos 5 } ∷ []) })
+  pub seen : slice_get reader_end.mail 15 ≡ Some (envelope (Replica 1) (Client 2) (Note (version_at 15 2) x1 first_wid (pos 4) true None))
+  pub base : slice_get reader_end.mail 35 ≡ Some (envelope (Warden 1) (Replica 1) (Drops (version_at 20 0) (record { key = x1; wid = wid_of 10 1 1; value = pos 5 } ∷ [])))
   pub decision : decided_by reader_end (Warden 1) (exec_of 10 1) ≡ Some ToCommit

@@ -35,7 +35,10 @@ with_truncations s ts = record s { truncations = ts }
 
 -- a warden asks all replicas for a fence
 unfoldable pub truncate : WardenState → Version → WardenTurn
-truncate s w = record { state = with_truncations s (record { w = w; answers = []; dropped = false } ∷ s.truncations); sent = To_all (Fence w) ∷ [] }
+truncate s w = record {
+  state = with_truncations s (record { w = w; answers = []; dropped = false } ∷ s.truncations);
+  sent = To_all (Fence w) ∷ [];
+}
 
 -- some answer names x as committed
 abbrev pub named_committed : List FencedAnswer → Exec → Bool
@@ -65,7 +68,9 @@ counted t a ts = record { w = t.w; answers = t.answers ++ a ∷ []; dropped = fa
 
 -- a Fenced counts once per replica, for the truncation under way, until f+1 did
 abbrev pub is_counted : WardenRules → Truncation → Version → ℕ → Bool
-is_counted r t w k = (not t.dropped && same_version w t.w) && (nat_lt (length t.answers) (quorum r.replicas) && not (list_any (λ (b : FencedAnswer). b.replica == k) t.answers))
+is_counted r t w k =
+    (not t.dropped && same_version w t.w)
+    && (nat_lt (length t.answers) (quorum r.replicas) && not (list_any (λ (b : FencedAnswer). b.replica == k) t.answers))
 
 -- the turn with that Fenced counted
 abbrev pub with_fenced : WardenTurn → Truncation → FencedAnswer → List Truncation → WardenTurn
@@ -81,7 +86,9 @@ take_fenced r u w a (t ∷ ts) =
 
 -- f+1 Fenced counted, and all that they name is decided
 abbrev pub is_finished : WardenRules → WardenState → Truncation → Bool
-is_finished r s t = not t.dropped && (nat_le (quorum r.replicas) (length t.answers) && list_all (λ x. is_some (decision_on s x)) (to_recover t.answers))
+is_finished r s t =
+    not t.dropped
+    && (nat_le (quorum r.replicas) (length t.answers) && list_all (λ x. is_some (decision_on s x)) (to_recover t.answers))
 
 -- its Drop was sent
 abbrev pub drop_sent : Truncation → Truncation

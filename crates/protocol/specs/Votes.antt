@@ -14,6 +14,7 @@ use Rattle.msg.specs.declared.Body.TheVariants.{Prepare}
 use Rattle.morty_base.specs.Names.{before, same_exec, same_key}
 use Rattle.protocol.specs.Lists.{first_of_two, one_when}
 use Rattle.protocol.specs.Replica.{Handled, accepted_content, base, commits, decided, dropped, fence, promised}
+use Rattle.msg.specs.declared.Kept.{Kept}
 
 -- a vote that was cast, with the content that it is on
 pub record Cast : Type 0 where
@@ -43,12 +44,22 @@ abbrev pub is_commit_vote : Vote → Bool
 is_commit_vote Commit = true
 is_commit_vote _ = false
 
+-- a conflict of x with a committed content above the dropped version
+abbrev pub clashes_with_commit : Handled → Exec → Content → Kept → Bool
+clashes_with_commit h x c y = before (dropped h) y.exec.ver && conflicts x.ver c y.exec.ver y.content
+
+-- a conflict of x with a content above the dropped version that has a Commit vote and no decision
+abbrev pub clashes_with_vote : Handled → Exec → Content → Cast → Bool
+clashes_with_vote h x c y =
+    before (dropped h) y.exec.ver
+    && (is_commit_vote y.vote && (is_none (decided h y.exec) && conflicts x.ver c y.exec.ver y.content))
+
 -- the vote on x with content c, after h and these votes: the first case that holds
 unfoldable pub verdict : Handled → List Cast → Exec → Content → Vote
 verdict h casts x c =
     cond (not (before (fence h) x.ver)) Tentative
-    (cond (list_any (λ y. before (dropped h) y.exec.ver && conflicts x.ver c y.exec.ver y.content) (commits h) || list_any (conflicts_with_base x.ver c) (base h)) Final
-    (cond (list_any (λ y. before (dropped h) y.exec.ver && (is_commit_vote y.vote && (is_none (decided h y.exec) && conflicts x.ver c y.exec.ver y.content))) casts) Tentative
+    (cond (list_any (clashes_with_commit h x c) (commits h) || list_any (conflicts_with_base x.ver c) (base h)) Final
+    (cond (list_any (clashes_with_vote h x c) casts) Tentative
     Commit))
 
 -- the vote that was cast on x

@@ -45,7 +45,15 @@ pub record World : Type 0 where
 
 -- nothing was sent
 abbrev pub first_world : World
-first_world = record { client = λ _. fresh_client; replica = λ _. []; warden = λ _. fresh_warden; mail = []; delivered = []; stopped = []; moved = 0 }
+first_world = record {
+  client = λ _. fresh_client;
+  replica = λ _. [];
+  warden = λ _. fresh_warden;
+  mail = [];
+  delivered = [];
+  stopped = [];
+  moved = 0;
+}
 
 -- k is one of the numbers 1 to n
 abbrev pub in_range : ℕ → ℕ → Bool
@@ -94,15 +102,24 @@ pub record Move : Type 0 where
 
 -- a client takes a turn
 unfoldable pub client_moves : Plan → World → ℕ → Turn → Move
-client_moves p w c t = record { world = record w { client = at c t.state w.client }; sent = flat_map (to_all p.replicas (Client c)) t.sent }
+client_moves p w c t = record {
+  world = record w { client = at c t.state w.client };
+  sent = flat_map (to_all p.replicas (Client c)) t.sent;
+}
 
 -- a warden takes a turn
 unfoldable pub warden_moves : Plan → World → ℕ → WardenTurn → Move
-warden_moves p w k t = record { world = record w { warden = at k t.state w.warden }; sent = flat_map (parcel p.replicas (Warden k)) t.sent }
+warden_moves p w k t = record {
+  world = record w { warden = at k t.state w.warden };
+  sent = flat_map (parcel p.replicas (Warden k)) t.sent;
+}
 
 -- a replica handles an envelope
 unfoldable pub replica_moves : Plan → World → ℕ → Envelope → Move
-replica_moves p w r m = record { world = record w { replica = at r (after_taking (w.replica r) m) w.replica }; sent = says p.firsts r (w.replica r) m }
+replica_moves p w r m = record {
+  world = record w { replica = at r (after_taking (w.replica r) m) w.replica };
+  sent = says p.firsts r (w.replica r) m;
+}
 
 -- what happens to a client, where it can happen
 abbrev pub client_input : Plan → World → ℕ → Input → Option Move
@@ -160,7 +177,7 @@ abbrev pub made : World → Option Move → World
 made w None = w
 made w (Some v) =
     cond (nat_le 200000 (length w.mail)) w
-    (record { client = v.world.client; replica = v.world.replica; warden = v.world.warden; mail = w.mail ++ v.sent; delivered = v.world.delivered; stopped = v.world.stopped; moved = w.moved + 1 })
+    (record v.world { mail = w.mail ++ v.sent; moved = w.moved + 1 })
 
 -- the world after an event: one that is not enabled, or is refused for the mail, changes nothing
 unfoldable pub after : Plan → World → Event → World

@@ -7,12 +7,10 @@ use Rattle.msg.specs.declared.Pick.TheVariants.{Deliver, Go, Recover, Truncate, 
 use Rattle.msg.specs.declared.Vote.TheVariants.{Commit, Tentative, Final}
 use Rattle.msg.specs.declared.Choice.TheVariants.{Abandon, Commit as ToCommit}
 use Rattle.msg.specs.declared.Body.TheVariants.{Get, Note, Puts, Prepare, Finalize, Decide, Told, Fenced, TooOld, Drop as Drops, Vote as Voted}
-use Rattle.morty_base.specs.declared.names.Ending.TheVariants.{Done}
-use Rattle.morty_base.specs.Names.{first_wid}
 use Rattle.protocol.specs.declared.Fate.TheVariants.{Committed, Aborted}
 use Rattle.protocol.specs.World.{World, first_world, replay_from, enabled}
 use Rattle.protocol.specs.Decided.{decided_by}
-use Rattle.protocol.specs.Samples.{x1, y1, exec_of, second_of, wid_of, inc, look, put, half, two, only, plan, four}
+use Rattle.protocol.specs.Samples.{x1, y1, version_at, exec_of, second_of, envelope, increased, wid_of, inc, look, put, half, two, only, plan, four}
 
 -- one client and one replica
 abbrev pub first_end : World
@@ -25,7 +23,7 @@ first_end = replay_from (plan 1 0 (only inc 10 ∷ []) four 1) first_world (
 pub record FirstRun : Type 0 where
   pub envelopes : length first_end.mail ≡ 6
   pub events : first_end.moved ≡ 9
-  pub prepare : slice_get first_end.mail 3 ≡ Some (record { from = Client 1; to = Replica 1; body = Prepare (exec_of 10 1) (record { reads = record { key = x1; wid = first_wid; value = pos 4 } ∷ []; writes = record { key = x1; value = pos 5 } ∷ []; out = pos 4 ∷ []; ending = Done }) })
+  pub prepare : slice_get first_end.mail 3 ≡ Some (envelope (Client 1) (Replica 1) (Prepare (exec_of 10 1) (increased (pos 4))))
   pub client : decided_by first_end (Client 1) (exec_of 10 1) ≡ Some ToCommit
   pub replica : decided_by first_end (Replica 1) (exec_of 10 1) ≡ Some ToCommit
   pub fate : (first_end.client 1).fate ≡ Committed
@@ -45,7 +43,7 @@ fast_end = replay_from (plan 3 0 (only inc 10 ∷ []) four 1) first_world (
 pub record FastPath : Type 0 where
   pub envelopes : length fast_end.mail ≡ 18
   pub events : fast_end.moved ≡ 21
-  pub vote : slice_get fast_end.mail 14 ≡ Some (record { from = Replica 3; to = Client 1; body = Voted (exec_of 10 1) Commit })
+  pub vote : slice_get fast_end.mail 14 ≡ Some (envelope (Replica 3) (Client 1) (Voted (exec_of 10 1) Commit))
   pub client : decided_by fast_end (Client 1) (exec_of 10 1) ≡ Some ToCommit
   pub replica : decided_by fast_end (Replica 3) (exec_of 10 1) ≡ Some ToCommit
 
@@ -60,9 +58,9 @@ missed_end = replay_from (plan 1 0 (only half 10 ∷ only two 20 ∷ []) [] 1) f
 pub record MissedWrite : Type 0 where
   pub envelopes : length missed_end.mail ≡ 8
   pub events : missed_end.moved ≡ 10
-  pub note : slice_get missed_end.mail 5 ≡ Some (record { from = Replica 1; to = Client 2; body = Note (record { ts = 20; client = 2 }) x1 (wid_of 10 1 1) (pos 7) false None })
-  pub puts : slice_get missed_end.mail 6 ≡ Some (record { from = Client 2; to = Replica 1; body = Puts (second_of 20 2) [] })
-  pub question : slice_get missed_end.mail 7 ≡ Some (record { from = Client 2; to = Replica 1; body = Get (second_of 20 2) y1 })
+  pub note : slice_get missed_end.mail 5 ≡ Some (envelope (Replica 1) (Client 2) (Note (version_at 20 2) x1 (wid_of 10 1 1) (pos 7) false None))
+  pub puts : slice_get missed_end.mail 6 ≡ Some (envelope (Client 2) (Replica 1) (Puts (second_of 20 2) []))
+  pub question : slice_get missed_end.mail 7 ≡ Some (envelope (Client 2) (Replica 1) (Get (second_of 20 2) y1))
   pub undecided : decided_by missed_end (Client 2) (exec_of 20 2) ≡ None
   pub idle : enabled (plan 1 0 (only half 10 ∷ only two 20 ∷ []) [] 1) missed_end (Ran 2) ≡ None
 
@@ -81,10 +79,10 @@ again_end = replay_from (plan 1 0 (only inc 10 ∷ only inc 20 ∷ []) four 1) f
 pub record ReExecution : Type 0 where
   pub envelopes : length again_end.mail ≡ 20
   pub events : again_end.moved ≡ 26
-  pub note : slice_get again_end.mail 8 ≡ Some (record { from = Replica 1; to = Client 2; body = Note (record { ts = 20; client = 2 }) x1 (wid_of 10 1 1) (pos 5) false None })
-  pub vote : slice_get again_end.mail 10 ≡ Some (record { from = Replica 1; to = Client 2; body = Voted (exec_of 20 2) Tentative })
-  pub proposal : slice_get again_end.mail 13 ≡ Some (record { from = Client 2; to = Replica 1; body = Finalize (exec_of 20 2) 0 Abandon None })
-  pub puts : slice_get again_end.mail 16 ≡ Some (record { from = Client 2; to = Replica 1; body = Puts (second_of 20 2) (record { key = x1; value = pos 6 } ∷ []) })
+  pub note : slice_get again_end.mail 8 ≡ Some (envelope (Replica 1) (Client 2) (Note (version_at 20 2) x1 (wid_of 10 1 1) (pos 5) false None))
+  pub vote : slice_get again_end.mail 10 ≡ Some (envelope (Replica 1) (Client 2) (Voted (exec_of 20 2) Tentative))
+  pub proposal : slice_get again_end.mail 13 ≡ Some (envelope (Client 2) (Replica 1) (Finalize (exec_of 20 2) 0 Abandon None))
+  pub puts : slice_get again_end.mail 16 ≡ Some (envelope (Client 2) (Replica 1) (Puts (second_of 20 2) (record { key = x1; value = pos 6 } ∷ [])))
   pub earlier : decided_by again_end (Replica 1) (exec_of 10 1) ≡ Some ToCommit
   pub abandoned : decided_by again_end (Replica 1) (exec_of 20 2) ≡ Some Abandon
   pub committed : decided_by again_end (Replica 1) (second_of 20 2) ≡ Some ToCommit
@@ -101,7 +99,7 @@ late_end = replay_from (plan 1 0 (only put 10 ∷ only look 20 ∷ []) [] 1) fir
 pub record FinalVote : Type 0 where
   pub envelopes : length late_end.mail ≡ 10
   pub events : late_end.moved ≡ 13
-  pub vote : slice_get late_end.mail 8 ≡ Some (record { from = Replica 1; to = Client 1; body = Voted (exec_of 10 1) Final })
+  pub vote : slice_get late_end.mail 8 ≡ Some (envelope (Replica 1) (Client 1) (Voted (exec_of 10 1) Final))
   pub abandoned : decided_by late_end (Client 1) (exec_of 10 1) ≡ Some Abandon
   pub committed : decided_by late_end (Replica 1) (exec_of 20 2) ≡ Some ToCommit
   pub fate : (late_end.client 1).fate ≡ Aborted
@@ -122,9 +120,9 @@ contest_end = replay_from (plan 3 2 (only inc 10 ∷ []) four 1) first_world (
 pub record ViewContest : Type 0 where
   pub envelopes : length contest_end.mail ≡ 35
   pub events : contest_end.moved ≡ 23
-  pub told : slice_get contest_end.mail 24 ≡ Some (record { from = Replica 1; to = Warden 2; body = Told (exec_of 10 1) 2 (Some Commit) (Some (record { view = 1; choice = ToCommit })) None (Some (record { reads = record { key = x1; wid = first_wid; value = pos 4 } ∷ []; writes = record { key = x1; value = pos 5 } ∷ []; out = pos 4 ∷ []; ending = Done })) })
-  pub unvoted : slice_get contest_end.mail 25 ≡ Some (record { from = Replica 3; to = Warden 2; body = Told (exec_of 10 1) 2 None None None None })
-  pub decide : slice_get contest_end.mail 34 ≡ Some (record { from = Warden 2; to = Client 1; body = Decide (exec_of 10 1) ToCommit (Some (record { reads = record { key = x1; wid = first_wid; value = pos 4 } ∷ []; writes = record { key = x1; value = pos 5 } ∷ []; out = pos 4 ∷ []; ending = Done })) })
+  pub told : slice_get contest_end.mail 24 ≡ Some (envelope (Replica 1) (Warden 2) (Told (exec_of 10 1) 2 (Some Commit) (Some (record { view = 1; choice = ToCommit })) None (Some (increased (pos 4)))))
+  pub unvoted : slice_get contest_end.mail 25 ≡ Some (envelope (Replica 3) (Warden 2) (Told (exec_of 10 1) 2 None None None None))
+  pub decide : slice_get contest_end.mail 34 ≡ Some (envelope (Warden 2) (Client 1) (Decide (exec_of 10 1) ToCommit (Some (increased (pos 4)))))
   pub decision : decided_by contest_end (Warden 2) (exec_of 10 1) ≡ Some ToCommit
   pub undecided : decided_by contest_end (Client 1) (exec_of 10 1) ≡ None
 
@@ -133,7 +131,7 @@ abbrev pub cut_end : World
 cut_end = replay_from (plan 3 1 (only inc 10 ∷ only look 15 ∷ []) four 10) first_world (
     Picked (Client 1) Go ∷ Ran 1 ∷ Picked (Replica 1) (Deliver 0) ∷ Picked (Client 1) (Deliver 3) ∷ Ran 1 ∷
     Picked (Replica 1) (Deliver 7) ∷ Picked (Replica 2) (Deliver 8) ∷
-    Picked (Warden 1) (Truncate (record { ts = 20; client = 0 })) ∷ Picked (Replica 1) (Deliver 12) ∷
+    Picked (Warden 1) (Truncate (version_at 20 0)) ∷ Picked (Replica 1) (Deliver 12) ∷
     Picked (Replica 2) (Deliver 13) ∷ Picked (Warden 1) (Deliver 15) ∷ Picked (Warden 1) (Deliver 16) ∷
     Picked (Replica 1) (Deliver 17) ∷ Picked (Replica 2) (Deliver 18) ∷ Picked (Warden 1) (Deliver 20) ∷
     Picked (Warden 1) (Deliver 21) ∷ Picked (Replica 1) (Deliver 22) ∷ Picked (Replica 2) (Deliver 23) ∷
@@ -146,9 +144,9 @@ cut_end = replay_from (plan 3 1 (only inc 10 ∷ only look 15 ∷ []) four 10) f
 pub record Truncated : Type 0 where
   pub envelopes : length cut_end.mail ≡ 45
   pub events : cut_end.moved ≡ 30
-  pub fenced : slice_get cut_end.mail 15 ≡ Some (record { from = Replica 1; to = Warden 1; body = Fenced (record { ts = 20; client = 0 }) [] [] (record { exec = exec_of 10 1; content = record { reads = record { key = x1; wid = first_wid; value = pos 4 } ∷ []; writes = record { key = x1; value = pos 5 } ∷ []; out = pos 4 ∷ []; ending = Done } } ∷ []) })
-  pub drop : slice_get cut_end.mail 31 ≡ Some (record { from = Warden 1; to = Replica 1; body = Drops (record { ts = 20; client = 0 }) (record { key = x1; wid = wid_of 10 1 1; value = pos 5 } ∷ []) })
-  pub late : slice_get cut_end.mail 37 ≡ Some (record { from = Replica 1; to = Client 2; body = TooOld (record { ts = 15; client = 2 }) (record { ts = 20; client = 0 }) })
-  pub note : slice_get cut_end.mail 44 ≡ Some (record { from = Replica 1; to = Client 2; body = Note (record { ts = 25; client = 2 }) x1 (wid_of 10 1 1) (pos 5) true None })
+  pub fenced : slice_get cut_end.mail 15 ≡ Some (envelope (Replica 1) (Warden 1) (Fenced (version_at 20 0) [] [] (record { exec = exec_of 10 1; content = increased (pos 4) } ∷ [])))
+  pub drop : slice_get cut_end.mail 31 ≡ Some (envelope (Warden 1) (Replica 1) (Drops (version_at 20 0) (record { key = x1; wid = wid_of 10 1 1; value = pos 5 } ∷ [])))
+  pub late : slice_get cut_end.mail 37 ≡ Some (envelope (Replica 1) (Client 2) (TooOld (version_at 15 2) (version_at 20 0)))
+  pub note : slice_get cut_end.mail 44 ≡ Some (envelope (Replica 1) (Client 2) (Note (version_at 25 2) x1 (wid_of 10 1 1) (pos 5) true None))
   pub decision : decided_by cut_end (Warden 1) (exec_of 10 1) ≡ Some ToCommit
   pub abandoned : decided_by cut_end (Client 2) (exec_of 15 2) ≡ Some Abandon

@@ -50,7 +50,6 @@ use Rattle.safety.proofs.Contents.{contents_reach}
 use Rattle.safety.proofs.Shapes.{commit_sent, Shaped, shaped_reach}
 use Rattle.safety.proofs.Entries.{entry_trans, puts_hold, puts_of}
 
-
 pub is_commit : (o : Option Vote) → (o ≡ Some Commit) ⊎ (o ≢ Some Commit)
 is_commit None = inr (λ e. cc)
 is_commit (Some Commit) = inl refl

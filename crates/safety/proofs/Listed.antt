@@ -170,7 +170,7 @@ module _ (p : Plan) (pos : 0 < p.replicas) (w : World) (q : Reach p w) where
       let b = attempt_finds x.ver (w.client x.ver.client).attempts a.0 a.1.begun a.1.version in
       let row : CommittedExec = record { exec = x; content = k.0; txn = b.0.txn; try = b.0.try } in
       let here : IsIn row (committed_in p w (Prepare x k.0)) = subst (λ (z : Bool). IsIn row (cond z (of_attempt x k.0 (attempt_at w x.ver)) [])) (sym (is_committed_true x c))
-          (subst (λ (o : Option Attempt). IsIn row (of_attempt x k.0 o)) (sym b.1) (inl refl)) in
+      (subst (λ (o : Option Attempt). IsIn row (of_attempt x k.0 o)) (sym b.1) (inl refl)) in
       sorted_lists row (flat_map (λ (m : Envelope). committed_in p w m.body) w.mail)
       (flat_map_in (λ (m : Envelope). committed_in p w m.body) w.mail k.1.envelope row k.1.there (subst (λ (y : Body). IsIn row (committed_in p w y)) (sym k.1.body) here))
 

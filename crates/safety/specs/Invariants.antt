@@ -63,7 +63,7 @@ pub record AnswersOf (w : World) (r : ℕ) : Type 0 where
   pub voted : (x : Exec) (v : Vote) → WasSentBy w (Replica r) (Voted x v) → vote (w.replica r) x ≡ Some v
   pub accepts : (a : Acceptance) → IsIn a (acceptances (w.replica r)) → WasSentBy w (Replica r) (Accepted a.exec a.view)
   pub accepted : (x : Exec) (v : ℕ) → WasSentBy w (Replica r) (Accepted x v) →
-    (a : Acceptance) × IsIn a (acceptances (w.replica r)) × (a.exec ≡ x) × (a.view ≡ v)
+      (a : Acceptance) × IsIn a (acceptances (w.replica r)) × (a.exec ≡ x) × (a.view ≡ v)
 
 abbrev pub AnswersTell : Type 0
 AnswersTell = (p : Plan) (events : List Event) (r : ℕ) → AnswersOf (replay_from p first_world events) r

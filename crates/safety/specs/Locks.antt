@@ -37,11 +37,11 @@ pub data Shut (w : World) (x : Exec) (r : ℕ) : Type 0 where
   Fenced_out : vote (w.replica r) x ≢ Some Commit → UpTo x.ver (fence (w.replica r)) → Shut w x r
   Unsent : ((k : Content) → WasSent w (Prepare x k) → ⊥) → Over x (w.client x.ver.client) → Shut w x r
   Conflicting :
-    vote (w.replica r) x ≢ Some Commit →
-    (k : Content) → WasSent w (Prepare x k) →
-    (c : Cast) → IsIn c (casts (w.replica r)) → c.vote ≡ Commit → conflicts x.ver k c.exec.ver c.content ≡ true →
-    (o : Option Content) → WasSent w (Decide c.exec ToCommit o) →
-    Shut w x r
+      vote (w.replica r) x ≢ Some Commit →
+      (k : Content) → WasSent w (Prepare x k) →
+      (c : Cast) → IsIn c (casts (w.replica r)) → c.vote ≡ Commit → conflicts x.ver k c.exec.ver c.content ≡ true →
+      (o : Option Content) → WasSent w (Decide c.exec ToCommit o) →
+      Shut w x r
 
 -- Abandon of x is locked: a quorum accepted it in one view, or is shut to x
 pub data AbandonLock (n : ℕ) (w : World) (x : Exec) : Type 0 where
@@ -53,7 +53,7 @@ pub data AbandonLock (n : ℕ) (w : World) (x : Exec) : Type 0 where
 pub data CommitLock (n : ℕ) (w : World) (x : Exec) : Type 0 where
   Accepted_commit : (v : ℕ) → Quorum n (HasAccepted w x v ToCommit) → CommitLock n w x
   Fast :
-    ((r : ℕ) → 0 < r → r ≤ n → VotedCommit w x r) →
-    ClientDecided w x ToCommit →
-    ((d : Choice) (o : Option Content) → WasSent w (Finalize x 0 d o) → ⊥) →
-    CommitLock n w x
+      ((r : ℕ) → 0 < r → r ≤ n → VotedCommit w x r) →
+      ClientDecided w x ToCommit →
+      ((d : Choice) (o : Option Content) → WasSent w (Finalize x 0 d o) → ⊥) →
+      CommitLock n w x

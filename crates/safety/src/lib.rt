@@ -11,7 +11,13 @@ ghost use Rattle.safety.specs.Tries.{OneExecution, OneTry};
 ghost use Rattle.safety.specs.Bases.{BaseOfDrop, BaseIsOne, TwoVotes, FenceNames, DropSettles};
 ghost use Rattle.safety.specs.Outcome.{CommittedList, BaseAt};
 ghost use Rattle.safety.specs.Invariants.{
-    OneContent, CommitNeedsVotes, AbandonProposals, Views, LocksHold, AnswersTell, CommitIsSent,
+  OneContent,
+  CommitNeedsVotes,
+  AbandonProposals,
+  Views,
+  LocksHold,
+  AnswersTell,
+  CommitIsSent,
 };
 
 /// No two nodes decide an execution differently, whatever happens.

@@ -26,7 +26,8 @@ use Rattle.protocol.specs.Attempts.{prepare_if_ready, prepare_when, has_pending,
 use Rattle.protocol.specs.Notes.Effect.{Nothing, Sure, Follow}
 use Rattle.protocol.specs.World.{World}
 use Rattle.protocol.specs.Decided.{WasSent}
-use Rattle.serial_reads.specs.Programs.{IsProgram, IsNoted}
+use Rattle.protocol.specs.Programs.{IsProgram}
+use Rattle.serial_reads.specs.Programs.{IsNoted}
 use Rattle.protocol.proofs.Logic.{and_right}
 use Rattle.protocol.proofs.Orders.{key_is}
 use Rattle.protocol.proofs.Members.{IsIn-cases, IsIn-one_when}
@@ -241,5 +242,4 @@ module _ (r : Rules) (prog : (n : ℕ) → IsProgram (walk_at (slice_get r.txns 
       go : (o : Option ℕ) → place_of k 0 (walk r c).keys ≡ o → Good (elim o [ None ↦ c | Some i ↦ follow_prepared c i (answer_at c i) new (effect (next_label (answer_at c i)) new lost) ])
       go None e = g
       go (Some i) e = follow_prepared_ok c i k new (effect (next_label (answer_at c i)) new lost) g n (only_at c k i e) (λ z. effect_sure (next_label (answer_at c i)) new lost z)
-
-  -- votes
+      -- votes

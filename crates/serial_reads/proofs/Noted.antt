@@ -33,7 +33,8 @@ use Rattle.msg.specs.declared.Event.{Event}
 use Rattle.protocol.specs.World.{Plan, World, first_world, replay_from, rules, to_all, parcel}
 use Rattle.protocol.specs.Decided.{WasSent}
 use Rattle.serial_reads.specs.Reads.{IsSure}
-use Rattle.serial_reads.specs.Programs.{IsProgram, HasPrograms, IsNoted, ReadsNoted, ReadsSure}
+use Rattle.protocol.specs.Programs.{IsProgram, HasPrograms}
+use Rattle.serial_reads.specs.Programs.{IsNoted, ReadsNoted, ReadsSure}
 use Rattle.protocol.proofs.Orders.{version_is}
 use Rattle.protocol.proofs.Members.{IsIn-left, IsIn-cases, at_cases}
 use Rattle.serial_reads.proofs.Labels.{Fits}

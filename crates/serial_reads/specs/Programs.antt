@@ -1,28 +1,20 @@
 -- What a program reads.
-use Rattle.std.specs.Prelude.{◌≡◌, ℕ, ℤ, ◌<◌, true, List, take, Option, Some, Bool, ◌++◌}
+use Rattle.std.specs.Prelude.{◌≡◌, ℕ, ℤ, ◌<◌, true, List, Option, Bool}
 use Rattle.std.specs.List.{slice_get}
 use Rattle.morty_base.specs.declared.names.Exec.{Exec}
 use Rattle.morty_base.specs.declared.names.Version.{Version}
 use Rattle.morty_base.specs.declared.names.Wid.{Wid}
-use Rattle.morty_base.specs.declared.names.Key.{Key}
 use Rattle.msg.specs.declared.Content.{Content}
 use Rattle.msg.specs.declared.Read.{Read}
-use Rattle.msg.specs.declared.Write.{Write}
 use Rattle.msg.specs.declared.Body.TheVariants.{Prepare, Note}
 use Rattle.morty_base.specs.Names.{before}
 use Rattle.protocol.specs.Lists.{IsIn}
-use Rattle.protocol.specs.Client.{Walk, walk_at}
+use Rattle.protocol.specs.Client.{walk_at}
 use Rattle.msg.specs.declared.Event.{Event}
 use Rattle.protocol.specs.World.{Plan, World, first_world, replay_from, rules}
 use Rattle.protocol.specs.Decided.{WasSent}
+use Rattle.protocol.specs.Programs.{HasPrograms, WritesGrow}
 use Rattle.serial_reads.specs.Reads.{IsSure}
-
--- the i-th answered read is the one that the program asks after the first i answers
-pub record IsProgram (walk : List ℤ → Walk) : Type 0 where
-  pub asked : (vs : List ℤ) (i : ℕ) (k : Key) → slice_get (walk vs).keys i ≡ Some k → (walk (take i vs)).asks ≡ Some k
-
-abbrev pub HasPrograms : Plan → Type 0
-HasPrograms p = (c n : ℕ) → IsProgram (walk_at (slice_get (rules p c).txns n))
 
 -- a Note to this version told the read, and one called its write name sure
 pub record IsNoted (w : World) (v : Version) (r : Read) : Type 0 where
@@ -39,10 +31,6 @@ abbrev pub ReadsSure : Type 0
 ReadsSure = (p : Plan) → 0 < p.replicas → HasPrograms p → (events : List Event) (x : Exec) (k : Content) (r : Read) →
     WasSent (replay_from p first_world events) (Prepare x k) → IsIn r k.reads →
     (before r.wid.ver x.ver ≡ true) × ((value : ℤ) × IsSure p (replay_from p first_world events) r.key r.wid value)
-
--- more answers only add writes
-pub record WritesGrow (walk : List ℤ → Walk) : Type 0 where
-  pub more : (vs us : List ℤ) → (ws : List Write) × ((walk (vs ++ us)).writes ≡ (walk vs).writes ++ ws)
 
 -- not proved yet: each read of a prepared content has the value that its write name stands for
 abbrev pub ReadsCurrent : Type 0

@@ -1,0 +1,3 @@
+pub mod Scripted
+pub mod Laws
+pub mod Samples

@@ -1,0 +1,20 @@
+//! The programs of the language as the protocol takes them: what a program does on answers is its replay.
+#![tactic(auto)]
+
+ghost use Rattle.programs.specs.Laws.{ProgramsWalk, PlansHavePrograms};
+ghost use Rattle.programs.specs.Samples.{SamplesArePrograms};
+
+/// A program asks for its reads one after another, and more answers only add writes.
+pub fn programs_walk()
+    ensures { ProgramsWalk }
+{}
+
+/// So does each transaction of a plan that is made of programs.
+pub fn plans_have_programs()
+    ensures { PlansHavePrograms }
+{}
+
+/// The runs of the protocol that are computed are runs of programs.
+pub fn samples_are_programs()
+    ensures { SamplesArePrograms }
+{}

@@ -1,0 +1,5 @@
+pub mod Lexemes
+pub mod FirstForm
+pub mod Parts
+pub mod TopCall
+pub mod Made

@@ -1,0 +1,30 @@
+-- What is made of a script's text, and how a text is written.
+use Rattle.std.specs.Prelude.{◌≡◌, ℕ, List, [], Option}
+use Rattle.morty_io.specs.Bytes.{Takes, TakesPart}
+use Rattle.world.specs.declared.event.Event.{Event}
+use Rattle.world.specs.declared.script.FirstScript.{FirstScript}
+use Rattle.script_cli.specs.declared.top.Made.{Made}
+use Rattle.script_cli.specs.declared.top.Made.TheVariants.{NotBuilt, Report}
+use Rattle.script_cli.specs.FirstForm.{IsFirstForm}
+use Rattle.script_cli.specs.TopCall.{report_text, not_built}
+
+-- the report of this script
+abbrev pub IsReportOf : FirstScript → Made → Type 0
+IsReportOf script NotBuilt = ⊥
+IsReportOf script (Report text journal) = text ≡ report_text script journal
+
+-- the report of the script that the text says, or nothing where it says none
+abbrev pub IsMadeOf : List ℕ → Made → Type 0
+IsMadeOf text NotBuilt = (script : FirstScript) → ¬ IsFirstForm text script
+IsMadeOf text (Report written journal) = (script : FirstScript) × IsFirstForm text script × (written ≡ report_text script journal)
+
+-- the text was written with the status that goes with it, or the sink failed within it and the status is 5
+pub data IsWritten (old new : Option (List ℕ)) (WriteFailed : Type 0) (text : List ℕ) (due status : ℕ) : Type 0 where
+  Whole : Takes old new text → status ≡ due → IsWritten old new WriteFailed text due status
+  Part : TakesPart old new text → WriteFailed → status ≡ 5 → IsWritten old new WriteFailed text due status
+
+-- what is answered for a script's text: the report of its run, the line that says that it is none, or nothing
+pub data IsTextAnswered (bytes : List ℕ) (old new : Option (List ℕ)) (WriteFailed : Type 0) (status : ℕ) (journal : List Event) : Type 0 where
+  Reported : (script : FirstScript) → IsFirstForm bytes script → IsWritten old new WriteFailed (report_text script journal) 0 status → IsTextAnswered bytes old new WriteFailed status journal
+  Refused : ((script : FirstScript) → ¬ IsFirstForm bytes script) → IsWritten old new WriteFailed not_built 3 status → journal ≡ [] → IsTextAnswered bytes old new WriteFailed status journal
+  No_memory : new ≡ old → status ≡ 9 → journal ≡ [] → IsTextAnswered bytes old new WriteFailed status journal

@@ -1,0 +1,84 @@
+-- What the top call answers: the lines of its faults, the report of a run, and what is due for words and bytes.
+use Rattle.std.specs.Prelude.{◌≡◌, ◌≢◌, ℕ, ◌<◌, ◌≤◌, ◌⊎◌, List, [], ◌∷◌, ◌++◌, length, codes, Option, IfSome}
+use Rattle.morty_base.specs.declared.names.Ended.TheVariants.{Quiet}
+use Rattle.morty_io.specs.Bytes.{Takes, TakesPart}
+use Rattle.report.specs.Text.{line_feed, report_of}
+use Rattle.world.specs.declared.script.FirstScript.{FirstScript}
+use Rattle.world.specs.declared.event.Event.{Event}
+use Rattle.world.specs.Rows.{rows_of}
+use Rattle.script_cli.specs.FirstForm.{IsFirstForm}
+
+-- the one command: run
+abbrev pub run_words : List (List ℕ)
+run_words = codes "run" ∷ []
+
+-- the greatest length of a script
+abbrev pub script_limit : ℕ
+script_limit = 1048576
+
+abbrev pub bad_command_line : List ℕ
+bad_command_line = codes "morty: bad command line" ++ line_feed
+
+abbrev pub read_failed : List ℕ
+read_failed = codes "morty: read failed" ++ line_feed
+
+abbrev pub too_long : List ℕ
+too_long = codes "morty: script too long" ++ line_feed
+
+abbrev pub not_built : List ℕ
+not_built = codes "morty: script form not built" ++ line_feed
+
+-- the bytes are more than a script may have
+abbrev pub IsTooLong : List ℕ → Type 0
+IsTooLong bytes = script_limit < length bytes
+
+-- the bytes are few enough, and no script of the first form
+pub record IsNotBuilt (bytes : List ℕ) : Type 0 where
+  pub short : length bytes ≤ script_limit
+  pub none : (script : FirstScript) → ¬ IsFirstForm bytes script
+
+-- the bytes are a script of the first form
+pub record IsScript (bytes : List ℕ) (script : FirstScript) : Type 0 where
+  pub short : length bytes ≤ script_limit
+  pub form : IsFirstForm bytes script
+
+-- the report of a quiet run of the script with this journal, whose rows are those of the serial run of its program
+abbrev pub report_text : FirstScript → List Event → List ℕ
+report_text script journal = report_of (script.table ∷ []) (rows_of script journal) Quiet
+
+-- the text is the report of the bytes' script for this journal
+pub record IsReport (bytes : List ℕ) (journal : List Event) (text : List ℕ) : Type 0 where
+  pub script : FirstScript
+  pub form : IsScript bytes script
+  pub written : text ≡ report_text script journal
+
+-- what is to be written for the words and for the bytes that the source had left, with the status that goes with
+-- it and the journal of the run that was made: the first of these that fits
+pub data IsDue (words : List (List ℕ)) (left : Option (List ℕ)) (ReadFailed : Type 0) (status : ℕ) (journal : List Event) (text : List ℕ) : Type 0 where
+  Bad_command : words ≢ run_words → status ≡ 2 → journal ≡ [] → text ≡ bad_command_line → IsDue words left ReadFailed status journal text
+  Read_failed : words ≡ run_words → ReadFailed → status ≡ 4 → journal ≡ [] → text ≡ read_failed → IsDue words left ReadFailed status journal text
+  Too_long : words ≡ run_words → IfSome left IsTooLong → status ≡ 3 → journal ≡ [] → text ≡ too_long → IsDue words left ReadFailed status journal text
+  Not_built : words ≡ run_words → IfSome left IsNotBuilt → status ≡ 3 → journal ≡ [] → text ≡ not_built → IsDue words left ReadFailed status journal text
+  Reported : words ≡ run_words → IfSome left (λ bytes. IsReport bytes journal text) → status ≡ 0 → IsDue words left ReadFailed status journal text
+
+-- the call wrote what was due, or the sink failed within it, or memory ran out before anything was written
+pub data IsAnswered (words : List (List ℕ)) (left : Option (List ℕ)) (ReadFailed : Type 0) (old new : Option (List ℕ)) (WriteFailed : Type 0) (status : ℕ) (journal : List Event) : Type 0 where
+  Written : (text : List ℕ) → IsDue words left ReadFailed status journal text → Takes old new text → IsAnswered words left ReadFailed old new WriteFailed status journal
+  Cut : (due : ℕ) (text : List ℕ) → IsDue words left ReadFailed due journal text → TakesPart old new text → WriteFailed → status ≡ 5 → IsAnswered words left ReadFailed old new WriteFailed status journal
+  Out_of_memory : words ≡ run_words → new ≡ old → status ≡ 9 → journal ≡ [] → IsAnswered words left ReadFailed old new WriteFailed status journal
+
+-- the bytes are refused, and the line that says why was written
+abbrev pub IsRefused : Option (List ℕ) → Option (List ℕ) → List ℕ → Type 0
+IsRefused old new bytes = (IsTooLong bytes × Takes old new too_long) ⊎ (IsNotBuilt bytes × Takes old new not_built)
+
+-- the report of the bytes' script for this journal was written
+abbrev pub IsReported : Option (List ℕ) → Option (List ℕ) → List Event → List ℕ → Type 0
+IsReported old new journal bytes = (script : FirstScript) × IsScript bytes script × Takes old new (report_text script journal)
+
+-- the sink took a part of what was due
+abbrev pub IsCut : List (List ℕ) → Option (List ℕ) → Type 0 → Option (List ℕ) → Option (List ℕ) → List Event → Type 0
+IsCut words left ReadFailed old new journal = (due : ℕ) × (text : List ℕ) × IsDue words left ReadFailed due journal text × TakesPart old new text
+
+-- the statuses that there are
+abbrev pub IsStatus : ℕ → Type 0
+IsStatus status = (status ≡ 0) ⊎ (status ≡ 2) ⊎ (status ≡ 3) ⊎ (status ≡ 4) ⊎ (status ≡ 5) ⊎ (status ≡ 9)

@@ -1,0 +1,7 @@
+//! The program's top call: words and bytes in, a status and bytes out.
+#![tactic(auto)]
+
+mod first_form;
+mod top;
+
+pub use top::{Exit, run_here};

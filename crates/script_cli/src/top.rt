@@ -1,0 +1,168 @@
+ghost use Rattle.std.specs.Prelude.{◌≡◌, ◌≢◌, ◌↔◌, ◌≤◌, ◌⊎◌, [], length, codes, IsTrue, IfSome, IfOk};
+ghost use Rattle.script_cli.specs.TopCall.{run_words, bad_command_line, read_failed as read_failed_line, IsAnswered, IsReported, IsRefused, IsScript, IsCut, IsStatus};
+ghost use Rattle.morty_io.specs.Faults.{Rose};
+ghost use Rattle.morty_io.specs.Bytes.{Takes};
+ghost use Rattle.world.specs.declared.script.FirstScript.{FirstScript as FirstScriptValue};
+ghost use Rattle.script_cli.specs.Made.{IsReportOf, IsMadeOf, IsWritten, IsTextAnswered};
+
+use crate::first_form::read_first_form;
+use morty_base::{Ended, List, NoMemory};
+use morty_io::{ReadEnd, Sink, Source, read_whole, write_whole};
+use report::report_text;
+use std::alloc::Global;
+use world::{Event, FirstScript, Run, run_script};
+
+/// How a call of the program ended: its status, and the events of the run that it made, if it made one.
+#[derive(Drop)]
+pub struct Exit {
+    pub status: u8,
+    pub journal: Vec<Event>,
+}
+
+/// The greatest length of a script, in bytes.
+const SCRIPT_LIMIT: usize = 1_048_576;
+
+/// What was made of a script's text: nothing, as it is not of the first form, or the report of its run.
+#[derive(Drop)]
+pub enum Made {
+    NotBuilt,
+    Report(List<u8>, List<Event>),
+}
+
+/// Whether the word is the one command.
+fn is_run_word(word: &List<u8>) -> bool
+    ensures { IsTrue result ↔ (word.now ≡ codes "run") }
+{
+    word.as_slice() == b"run".as_slice()
+}
+
+/// Whether the words are the one command.
+fn is_run(words: &[List<u8>]) -> bool
+    ensures { IsTrue result ↔ (words.now ≡ run_words) }
+{
+    match words.split_first() {
+        Some((word, rest)) => match rest.split_first() {
+            Some(_) => false,
+            None => is_run_word(word),
+        },
+        None => false,
+    }
+}
+
+/// The report of a script's run.
+fn report(alloc: Global, script: FirstScript) -> Result<Made, NoMemory>
+    ensures { IfOk result (λ made. IsReportOf script made) }
+{
+    let Run { rows, journal } = run_script(alloc, &script)?;
+    let mut tables = List::new(alloc);
+    tables.push(script.table)?;
+    let text = report_text(alloc, tables.as_slice(), &rows, Ended::Quiet)?;
+    Ok(Made::Report(text, journal))
+}
+
+/// Reads a script's text and runs it.
+fn make(alloc: Global, text: &[u8]) -> Result<Made, NoMemory>
+    requires { length text.now ≤ SCRIPT_LIMIT }
+    ensures { IfOk result (IsMadeOf text.now) }
+{
+    match read_first_form(alloc, text)? {
+        Some(script) => report(alloc, script),
+        None => Ok(Made::NotBuilt),
+    }
+}
+
+/// Writes a text whole, and answers the status, or 5 where the sink failed.
+fn write<K: Sink>(out: &mut K, status: u8, text: &[u8], journal: Vec<Event>) -> Exit
+    ensures journal { result.journal ≡ journal }
+    ensures written { IsWritten (K.taken out.old) (K.taken out.new) (Rose (K.faults out.old) (K.faults out.new)) text.now status result.status }
+{
+    match write_whole(out, text) {
+        Ok(()) => Exit { status, journal },
+        Err(_) => Exit { status: 5, journal },
+    }
+}
+
+/// Writes a line, with no run behind it.
+fn write_line<K: Sink>(alloc: Global, out: &mut K, status: u8, line: &[u8]) -> Exit
+    ensures journal { result.journal.items ≡ [] }
+    ensures written { IsWritten (K.taken out.old) (K.taken out.new) (Rose (K.faults out.old) (K.faults out.new)) line.now status result.status }
+{
+    write(out, status, line, Vec::new(alloc))
+}
+
+/// Nothing was written, for want of memory.
+fn out_of_memory(alloc: Global) -> Exit
+    ensures journal { result.journal.items ≡ [] }
+    ensures status { result.status ≡ 9 }
+{
+    Exit {
+        status: 9,
+        journal: Vec::new(alloc),
+    }
+}
+
+/// Answers a script's text.
+fn answer_text<K: Sink>(alloc: Global, text: &[u8], out: &mut K) -> Exit
+    requires { length text.now ≤ SCRIPT_LIMIT }
+    ensures { IsTextAnswered text.now (K.taken out.old) (K.taken out.new) (Rose (K.faults out.old) (K.faults out.new)) result.status result.journal.items }
+{
+    match make(alloc, text) {
+        Ok(Made::Report(report, journal)) => write(out, 0, report.as_slice(), journal.into_vec()),
+        Ok(Made::NotBuilt) => write_line(alloc, out, 3, b"morty: script form not built\n"),
+        Err(_) => out_of_memory(alloc),
+    }
+}
+
+/// Answers the words and the source's bytes.
+fn answer<S: Source, K: Sink>(alloc: Global, words: &[List<u8>], src: &mut S, out: &mut K) -> Exit
+    ensures answered { IsAnswered words.now (S.left src.old) (Rose (S.faults src.old) (S.faults src.new))
+        (K.taken out.old) (K.taken out.new) (Rose (K.faults out.old) (K.faults out.new)) result.status result.journal.items }
+    ensures emptied { result.status ≡ 0 → IfSome (S.left src.old) (λ _. S.left src.new ≡ Some []) }
+{
+    if !is_run(words) {
+        return write_line(alloc, out, 2, b"morty: bad command line\n");
+    }
+    match read_whole(alloc, src, SCRIPT_LIMIT) {
+        Ok(text) => answer_text(alloc, text.as_slice(), out),
+        Err(ReadEnd::ReadFault) => write_line(alloc, out, 4, b"morty: read failed\n"),
+        Err(ReadEnd::TooLong) => write_line(alloc, out, 3, b"morty: script too long\n"),
+        Err(ReadEnd::NoMemory) => out_of_memory(alloc),
+    }
+}
+
+/// The program: reads a script from the source for the one word `run`, runs it in this thread, and writes the
+/// report to the sink, or a line that says why there is none. The journal has the events of the run, if there was one.
+pub fn run_here<S: Source, K: Sink>(
+    alloc: Global,
+    words: &[List<u8>],
+    src: &mut S,
+    out: &mut K,
+) -> Exit
+    // 0: the source was read to its end, and the report of its script's run was written, whose reads, printed lines,
+    // ending and values are those of the serial run of its program.
+    ensures reported { result.status ≡ 0 → IfSome (S.left src.old) (IsReported (K.taken out.old) (K.taken out.new) result.journal.items) }
+    ensures emptied { result.status ≡ 0 → IfSome (S.left src.old) (λ _. S.left src.new ≡ Some []) }
+
+    // 2: exactly where the words are not the one word `run`, unless the sink fails.
+    ensures bad_words { result.status ≡ 2 → (words.now ≢ run_words) × Takes (K.taken out.old) (K.taken out.new) bad_command_line }
+    ensures good_words { words.now ≢ run_words → (result.status ≡ 2) ⊎ (result.status ≡ 5) }
+
+    // 3: the bytes are too many, or no script of the first form.
+    ensures refused { result.status ≡ 3 → (words.now ≡ run_words) × IfSome (S.left src.old) (IsRefused (K.taken out.old) (K.taken out.new)) }
+
+    // 4 and 5: only where a fault of the source or of the sink was counted.
+    ensures read_failed { result.status ≡ 4 → Rose (S.faults src.old) (S.faults src.new) × Takes (K.taken out.old) (K.taken out.new) read_failed_line }
+    ensures write_failed { result.status ≡ 5 → Rose (K.faults out.old) (K.faults out.new) }
+    ensures cut { result.status ≡ 5 → IsCut words.now (S.left src.old) (Rose (S.faults src.old) (S.faults src.new)) (K.taken out.old) (K.taken out.new) result.journal.items }
+
+    // 9: want of memory, before anything is written.
+    ensures no_memory { result.status ≡ 9 → K.taken out.new ≡ K.taken out.old }
+
+    // A script of the first form is run where nothing fails, and there are no other statuses.
+    ensures complete { words.now ≡ run_words → ¬ Rose (S.faults src.old) (S.faults src.new) → ¬ Rose (K.faults out.old) (K.faults out.new) →
+        IfSome (S.left src.old) (λ bytes. (script : FirstScriptValue) → IsScript bytes script → (result.status ≡ 0) ⊎ (result.status ≡ 9)) }
+    ensures known { IsStatus result.status }
+    ensures unrun { result.status ≢ 0 → result.status ≢ 5 → result.journal.items ≡ [] }
+{
+    answer(alloc, words, src, out)
+}
