@@ -37,14 +37,14 @@ use Rattle.protocol_steps.proofs.Facts.{RFact, facts_reach, well_reach, taking_r
 use Rattle.protocol_steps.proofs.ClientFacts.{CFact, client_facts_reach}
 use Rattle.protocol_steps.proofs.WardFacts.{WFact, ward_facts_reach}
 use Rattle.safety.proofs.Bases.{both, or_left_in, entry_write, dropped_sent}
-use Rattle.safety.proofs.Stays.{News, news, abandon_lock_stays}
+use Rattle.safety.proofs.Stays.{Origin, origin, abandon_lock_stays}
 use Rattle.safety.proofs.Locks.{sent_grows, cast_prepare}
 use Rattle.safety.proofs.Contents.{contents_reach}
-use Rattle.safety.proofs.Stays.News.{Old, Of_replica, Of_client, Of_warden}
+use Rattle.safety.proofs.Stays.Origin.{Old, Of_replica, Of_client, Of_warden}
 use Rattle.safety.proofs.Cuts.{CommitSent, apart_locks, one_content, named_fact}
 use Rattle.safety.proofs.Shapes.{commit_decided, client_no_drop, ward_dropped}
 use Rattle.safety.proofs.Entries.{put_of}
-use Rattle.safety.proofs.Agreed.{calm, safe_reach, decided_by_sent}
+use Rattle.safety.proofs.Agreed.{commit_ground, safe_reach, decided_by_sent}
 
 pub find_in : {A : Type 0} (name : A → Exec) (x : Exec) (xs : List A) (a : A) → IsIn a xs → name a ≡ x → Finds (find (λ y. same_exec x (name y)) xs)
 find_in name x [] a i e = absurd i
@@ -102,9 +102,9 @@ base_rising w v t k = puts_rising [] (flat_map (λ (a : FencedAnswer). a.base) t
 -- the base of a Drop is rising
 pub drop_rising : (p : Plan) (w : World) → Reach p w → (v : Version) (bs : List BaseEntry) → WasSent w (Drops v bs) → IsRising bs
 drop_rising p _ Begins v bs t = absurd t.there
-drop_rising p _ (Next w w' q st) v bs t = go (λ z. drop_rising p w q v bs z) (news p w w' q st _ t)
+drop_rising p _ (Next w w' q st) v bs t = go (λ z. drop_rising p w q v bs z) (origin p w w' q st _ t)
   where
-    go : (WasSent w (Drops v bs) → IsRising bs) → News p w w' (Drops v bs) → IsRising bs
+    go : (WasSent w (Drops v bs) → IsRising bs) → Origin p w w' (Drops v bs) → IsRising bs
     go ih (Old z) = ih z
     go ih (Of_replica r f) = absurd f
     go ih (Of_client cs i) = absurd (client_no_drop (rules p cs.c) (GotAt w cs.c) (w.client cs.c) cs.state cs.sent cs.act v bs i)
@@ -125,7 +125,7 @@ module _ (p : Plan) (pos : 0 < p.replicas) (w : World) (q : Reach p w) where
 -- what is locked stays locked
 lock_later : (p : Plan) → 0 < p.replicas → (o w : World) → Reach p o → From p o w → (x : Exec) → AbandonLock p.replicas o x → AbandonLock p.replicas w x
 lock_later p pos o _ r Begins x l = l
-lock_later p pos o _ r (Next w w' f s) x l = let q = from_trans p first_world o w r f in abandon_lock_stays p w w' q s (calm p pos w q (safe_reach p pos w q)) x (lock_later p pos o w r f x l)
+lock_later p pos o _ r (Next w w' f s) x l = let q = from_trans p first_world o w r f in abandon_lock_stays p w w' q s (commit_ground p pos w q (safe_reach p pos w q)) x (lock_later p pos o w r f x l)
 
 sent_later : (p : Plan) (o w : World) → From p o w → (b : Body) → WasSent o b → WasSent w b
 sent_later p o _ Begins b t = t

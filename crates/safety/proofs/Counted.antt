@@ -24,7 +24,7 @@ use Rattle.safety.proofs.Locks.{accepted_sent}
 use Rattle.safety.specs.Locks.{VotedCommit, HasAccepted}
 use Rattle.safety.proofs.Evidence.{Evidence, distinct_more}
 
--- the count_votes that pass are distinct replicas
+-- the counted votes that pass are those of distinct replicas
 passed : (Vote → Bool) → List CountedVote → List ℕ
 passed p [] = []
 passed p (b ∷ bs) = cond (p b.vote) (b.replica ∷ passed p bs) (passed p bs)

@@ -75,7 +75,7 @@ some_of (Some a) e = (a, refl)
 abbrev pub CommitSent : World → Exec → Type 0
 CommitSent w x = (o : Option Content) × WasSent w (Decide x ToCommit o)
 
--- what has to be prepare_when at a Drop is prepare_when
+-- what is at or below a version is settled when its Drop is sent
 module _ (p : Plan) (pos : 0 < p.replicas) (w : World) (q : Reach p w) (s : Safe p.replicas w) where
   pub one_content : (x : Exec) (k l : Content) → WasSent w (Prepare x k) → WasSent w (Prepare x l) → k ≡ l
   one_content x k l a b = (one_reach p w q).prepare a.envelope b.envelope x k l a.there b.there a.body b.body
@@ -204,7 +204,7 @@ module _ (p : Plan) (pos : 0 < p.replicas) (w : World) (q : Reach p w) (s : Safe
               (flat_map_in (λ (b : Kept). cond (before t.w b.exec.ver) [] (entries_of b.exec 1 b.content.writes)) a.committed d e h
               (subst (λ (v : Bool). IsIn e (cond v [] (entries_of d.exec 1 d.content.writes))) (sym (low d.exec z))
               (subst (λ (v : Exec). IsIn e (entries_of v 1 d.content.writes)) (sym z) (subst (λ (v : Content). IsIn e (entries_of y 1 v.writes)) (sym same) i)))))))
-          go (In_settled a b d j h z f) = prepare_when d.proposal.content refl
+          go (In_settled a b d j h z f) = in_base d.proposal.content refl
             where
               commit : d.proposal.choice ≡ ToCommit
               commit = elim (choice_cases d.proposal.choice) [
@@ -215,9 +215,9 @@ module _ (p : Plan) (pos : 0 < p.replicas) (w : World) (q : Reach p w) (s : Safe
               sent : WasSent w (Decide y ToCommit d.proposal.content)
               sent = subst (λ (g : Choice). WasSent w (Decide y g d.proposal.content)) commit (settled_sent y d f)
 
-              prepare_when : (o : Option Content) → d.proposal.content ≡ o → HasEntry (put_entries [] gathered) e
-              prepare_when None g = absurd (subst (λ (v : Option Content). Shaped ToCommit v) g (shaped_reach p pos w q y ToCommit d.proposal.content sent))
-              prepare_when (Some n) g =
+              in_base : (o : Option Content) → d.proposal.content ≡ o → HasEntry (put_entries [] gathered) e
+              in_base None g = absurd (subst (λ (v : Option Content). Shaped ToCommit v) g (shaped_reach p pos w q y ToCommit d.proposal.content sent))
+              in_base (Some n) g =
                   let same : n ≡ l = one_content y n l ((contents_reach p pos w q).from (Decide y ToCommit d.proposal.content) y n (refl, g) sent) pr in
                   let mine : IsIn e (decided_entries_of y (Some d)) = subst (λ (v : Option Content). IsIn e (elim v [ None ↦ [] | Some k ↦ entries_of y 1 k.writes ])) (sym g) (subst (λ (v : Content). IsIn e (entries_of y 1 v.writes)) (sym same) i) in
                   hold (IsIn-right e (flat_map (λ (b : FencedAnswer). b.base) t.answers) _ (IsIn-right e (flat_map (λ (b : FencedAnswer). kept_entries t.w b.committed) t.answers) _

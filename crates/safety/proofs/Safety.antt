@@ -40,15 +40,15 @@ use Rattle.safety.specs.Locks.{VotedCommit, HasAccepted, ClientDecided, Shut, Ab
 use Rattle.safety.specs.Locks.Shut.{Unsent}
 use Rattle.safety.specs.Locks.AbandonLock.{Accepted_abandon, All_shut}
 use Rattle.safety.specs.Locks.CommitLock.{Accepted_commit, Fast}
-use Rattle.safety.proofs.Stays.{Calm, News, news, shut_stays, closed_stays, abandon_lock_stays, commit_lock_stays}
-use Rattle.safety.proofs.Stays.News.{Old, Of_replica, Of_client, Of_warden}
+use Rattle.safety.proofs.Stays.{CommitGround, Origin, origin, shut_stays, closed_stays, abandon_lock_stays, commit_lock_stays}
+use Rattle.safety.proofs.Stays.Origin.{Old, Of_replica, Of_client, Of_warden}
 use Rattle.safety.proofs.Evidence.{evident_reach}
 use Rattle.safety.proofs.WardEvidence.{PartFact, ward_reach}
 use Rattle.safety.proofs.Chosen.{Safe, fixed_chosen, chosen_below, chosen_abandon, chosen_commit}
 use Rattle.safety.proofs.ClientSent.DecisionOf.{Weighed, Gave_up}
 use Rattle.safety.proofs.ClientSent.{ProposalOf, in_single, proposal_of, DecisionOf, Weighed, Gave_up, decision_of}
 use Rattle.safety.proofs.Counted.{commit_quorum, all_voted, a_final, accept_quorum, everyone}
-use Rattle.safety.proofs.WardSent.{DecidedRace, ward_decided}
+use Rattle.safety.proofs.WardSent.{DecidedRound, ward_decided}
 
 -- the tolds behind a warden's Finalize, as they are before the step in which it is sent
 pub record Behind (p : Plan) (w : World) (x : Exec) (v : ℕ) (d : Choice) : Type 0 where
@@ -58,7 +58,7 @@ pub record Behind (p : Plan) (w : World) (x : Exec) (v : ℕ) (d : Choice) : Typ
   pub many : quorum p.replicas ≤ length tolds
   pub choice : (fixed tolds).choice ≡ d
 
-module _ (p : Plan) (pos : 0 < p.replicas) (w w' : World) (q : Reach p w) (calm : Calm w) where
+module _ (p : Plan) (pos : 0 < p.replicas) (w w' : World) (q : Reach p w) (commit_ground : CommitGround w) where
   behind : (ws : WardenActs p w w') → (x : Exec) (v : ℕ) (d : Choice) (o : Option Content) → WFact p.wardens ws.k (w'.warden ws.k) (Finalize x v d o) → Behind p w x v d
   behind ws x v d o f =
       let g = round_found x v (w'.warden ws.k).rounds f.1.0 f.1.1 in
@@ -75,15 +75,15 @@ module _ (p : Plan) (pos : 0 < p.replicas) (w w' : World) (q : Reach p w) (calm 
   -- proposals
   pub proposals_step : (st : Step p w w') → Safe p.replicas w → Proposals p.replicas w'
   proposals_step st s = record {
-    commit = λ x v o t. commit_go x v o (news p w w' q st _ t);
-    abandon = λ x v o t. abandon_go x v o t (news p w w' q st _ t);
-    below = λ x v d o t u l. below_go x v d o u l (news p w w' q st _ t);
+    commit = λ x v o t. commit_go x v o (origin p w w' q st _ t);
+    abandon = λ x v o t. abandon_go x v o t (origin p w w' q st _ t);
+    below = λ x v d o t u l. below_go x v d o u l (origin p w w' q st _ t);
   }
     where
       mine : (cs : ClientActs p w w') (x : Exec) (v : ℕ) (d : Choice) (o : Option Content) → IsIn (Finalize x v d o) cs.sent → ProposalOf p.replicas (w.client cs.c) x v d
       mine cs x v d o i = proposal_of (rules p cs.c) (GotAt w cs.c) (w.client cs.c) cs.state cs.sent cs.act x v d o i
 
-      commit_go : (x : Exec) (v : ℕ) (o : Option Content) → News p w w' (Finalize x v ToCommit o) → Quorum p.replicas (VotedCommit w' x)
+      commit_go : (x : Exec) (v : ℕ) (o : Option Content) → Origin p w w' (Finalize x v ToCommit o) → Quorum p.replicas (VotedCommit w' x)
       commit_go x v o (Old t) = quorum_map p.replicas _ _ (λ r h. voted_grows p w w' st x Commit r h) (s.proposals.commit x v o t)
       commit_go x v o (Of_replica r f) = absurd f
       commit_go x v o (Of_client cs i) = let m = mine cs x v ToCommit o i in
@@ -94,28 +94,28 @@ module _ (p : Plan) (pos : 0 < p.replicas) (w w' : World) (q : Reach p w) (calm 
 
       shut_go : (x : Exec) → ((u : Option Content) × WasSent w (Finalize x 0 Abandon u)) ⊎ ((r : ℕ) × (0 < r) × (r ≤ p.replicas) × Shut w x r) → ((u : Option Content) × WasSent w' (Finalize x 0 Abandon u)) ⊎ ((r : ℕ) × (0 < r) × (r ≤ p.replicas) × Shut w' x r)
       shut_go x (inl z) = inl (z.0, sent_grows p w w' st _ z.1)
-      shut_go x (inr z) = inr (z.0, z.1, z.2, shut_stays p w w' q st calm x z.0 z.3)
+      shut_go x (inr z) = inr (z.0, z.1, z.2, shut_stays p w w' q st commit_ground x z.0 z.3)
 
-      abandon_go : (x : Exec) (v : ℕ) (o : Option Content) → WasSent w' (Finalize x v Abandon o) → News p w w' (Finalize x v Abandon o) → ((u : Option Content) × WasSent w' (Finalize x 0 Abandon u)) ⊎ ((r : ℕ) × (0 < r) × (r ≤ p.replicas) × Shut w' x r)
+      abandon_go : (x : Exec) (v : ℕ) (o : Option Content) → WasSent w' (Finalize x v Abandon o) → Origin p w w' (Finalize x v Abandon o) → ((u : Option Content) × WasSent w' (Finalize x 0 Abandon u)) ⊎ ((r : ℕ) × (0 < r) × (r ≤ p.replicas) × Shut w' x r)
       abandon_go x v o t (Old z) = shut_go x (s.proposals.abandon x v o z)
       abandon_go x v o t (Of_replica r f) = absurd f
       abandon_go x v o t (Of_client cs i) = let m = mine cs x v Abandon o i in inl (o, subst (λ z. WasSent w' (Finalize x z Abandon o)) m.view t)
       abandon_go x v o t (Of_warden ws a i e f) = let b = behind ws x v Abandon o f in
           shut_go x (chosen_abandon p w q s x v b.tolds b.facts b.distinct b.many (sym (fixed_chosen p w q s x v b.tolds b.facts b.distinct b.many) ∙ b.choice))
 
-      below_go : (x : Exec) (v : ℕ) (d : Choice) (o : Option Content) (u : ℕ) → u < v → News p w w' (Finalize x v d o) → Closed p.replicas w' x u d
+      below_go : (x : Exec) (v : ℕ) (d : Choice) (o : Option Content) (u : ℕ) → u < v → Origin p w w' (Finalize x v d o) → Closed p.replicas w' x u d
       below_go x v d o u l (Old z) = closed_stays p w w' st x u d (s.proposals.below x v d o z u l)
       below_go x v d o u l (Of_replica r f) = absurd f
       below_go x v d o u l (Of_client cs i) = let m = mine cs x v d o i in let z = m.view in absurd (omega (arith, z, l))
       below_go x v d o u l (Of_warden ws a i e f) = let b = behind ws x v d o f in
           closed_stays p w w' st x u d (subst (λ z. Closed p.replicas w x u z) (sym (fixed_chosen p w q s x v b.tolds b.facts b.distinct b.many) ∙ b.choice) (chosen_below p w q s x v b.tolds b.facts b.distinct b.many u l))
 
-module _ (p : Plan) (pos : 0 < p.replicas) (w w' : World) (q : Reach p w) (calm : Calm w) (st : Step p w w') (s : Safe p.replicas w) where
+module _ (p : Plan) (pos : 0 < p.replicas) (w w' : World) (q : Reach p w) (commit_ground : CommitGround w) (st : Step p w w') (s : Safe p.replicas w) where
   next : Reach p w'
   next = Next w w' q st
 
-  news_of : (cs : ClientActs p w w') (b c : Body) → cs.sent ≡ c ∷ [] → (b ≡ c → ⊥) → WasSent w' b → WasSent w b
-  news_of cs b c e n t = elim (IsIn-cases t.envelope w.mail _ (subst (λ (l : List Envelope). IsIn t.envelope l) cs.mail t.there)) [
+  sent_before : (cs : ClientActs p w w') (b c : Body) → cs.sent ≡ c ∷ [] → (b ≡ c → ⊥) → WasSent w' b → WasSent w b
+  sent_before cs b c e n t = elim (IsIn-cases t.envelope w.mail _ (subst (λ (l : List Envelope). IsIn t.envelope l) cs.mail t.there)) [
     | inl i ↦ record { envelope = t.envelope; there = i; body = t.body }
     | inr i ↦ absurd (n (sym t.body ∙ in_single cs.sent c t.envelope.body e (from_to_all p.replicas (Client cs.c) cs.sent t.envelope i).1))
   ]
@@ -136,7 +136,7 @@ module _ (p : Plan) (pos : 0 < p.replicas) (w w' : World) (q : Reach p w) (calm 
 
   -- the client gave up: nothing of x was prepared, and nothing will be
   gave_up : (cs : ClientActs p w w') (x : Exec) (k' : Option Content) → IsRunning (w.client cs.c).phase → x ≡ (w.client cs.c).exec → cs.state.exec ≡ (w.client cs.c).exec → cs.state.phase ≡ Between → cs.sent ≡ Decide x Abandon k' ∷ [] → AbandonLock p.replicas w' x
-  gave_up cs x k' run e f g sent = All_shut (everyone p.replicas _ pos (λ r a b. Unsent (λ k t. unsent k (news_of cs (Prepare x k) _ sent (λ z. cc) t)) (over_now cs x e (running_under_way _ run) f g)))
+  gave_up cs x k' run e f g sent = All_shut (everyone p.replicas _ pos (λ r a b. Unsent (λ k t. unsent k (sent_before cs (Prepare x k) _ sent (λ z. cc) t)) (over_now cs x e (running_under_way _ run) f g)))
     where
       unsent : (k : Content) → WasSent w (Prepare x k) → ⊥
       unsent k t = let h = prepare_from p w q t.envelope x k t.there t.body in
@@ -147,7 +147,7 @@ module _ (p : Plan) (pos : 0 < p.replicas) (w w' : World) (q : Reach p w) (calm 
 
   -- all voted Commit, and the client proposed nothing
   fast : (cs : ClientActs p w w') (x : Exec) (k' : Option Content) (k : Content) (vs : List CountedVote) (acs : List ℕ) → (w.client cs.c).phase ≡ Prepared k vs None acs → p.replicas ≤ count_votes is_commit_vote vs → x ≡ (w.client cs.c).exec → cs.state.exec ≡ (w.client cs.c).exec → cs.state.phase ≡ Between → cs.sent ≡ Decide x ToCommit k' ∷ [] → CommitLock p.replicas w' x × Quorum p.replicas (VotedCommit w' x)
-  fast cs x k' k vs acs ph l e f g sent = (Fast voted (decides_now cs x ToCommit k' e (prepared_under_way _ k vs None acs ph) sent) (λ d o t. unproposed d o (news_of cs (Finalize x 0 d o) _ sent (λ z. cc) t)), everyone p.replicas _ pos voted)
+  fast cs x k' k vs acs ph l e f g sent = (Fast voted (decides_now cs x ToCommit k' e (prepared_under_way _ k vs None acs ph) sent) (λ d o t. unproposed d o (sent_before cs (Finalize x 0 d o) _ sent (λ z. cc) t)), everyone p.replicas _ pos voted)
     where
       voted : (r : ℕ) → 0 < r → r ≤ p.replicas → VotedCommit w' x r
       voted r a b = voted_grows p w w' st x Commit r (subst (λ (z : Exec). VotedCommit w z r) (sym e) (all_voted p.replicas w _ k vs None acs ((evident_reach p pos w q cs.c).phase k vs None acs ph) l r a b))
@@ -167,32 +167,32 @@ module _ (p : Plan) (pos : 0 < p.replicas) (w w' : World) (q : Reach p w) (calm 
       (accept_quorum p w q x 0 d (content_for k d) acs ev.accepters (λ j i. subst (λ (z : Exec). ((0 < j) × (j ≤ p.replicas)) × AcceptedFact (w.replica j) z 0) (sym e) (ev.accept j i)) l sent, sent)
 
   -- a quorum accepted the warden's proposal
-  raced : (ws : WardenActs p w w') (x : Exec) (d : Choice) (o : Option Content) → DecidedRace p.replicas ws.state x d o → (v : ℕ) × (o : Option Content) × Quorum p.replicas (HasAccepted w' x v d) × WasSent w' (Finalize x v d o)
-  raced ws x d o r =
+  round_decided : (ws : WardenActs p w w') (x : Exec) (d : Choice) (o : Option Content) → DecidedRound p.replicas ws.state x d o → (v : ℕ) × (o : Option Content) × Quorum p.replicas (HasAccepted w' x v d) × WasSent w' (Finalize x v d o)
+  round_decided ws x d o r =
       let here : IsIn r.0 (w'.warden ws.k).rounds = subst (λ (h : ℕ → WardenState). IsIn r.0 (h ws.k).rounds) (sym ws.warden) (subst (λ (z : WardenState). IsIn r.0 z.rounds) (sym (at_same ws.k ws.state w.warden)) r.1) in
       let ev = (ward_reach p pos w' next ws.k).round r.0 here in
       let sent : WasSent w' (Finalize x r.0.view d r.3.0.content) = subst (λ (z : Exec). WasSent w' (Finalize z r.0.view d r.3.0.content)) r.2 (subst (λ (z : Choice). WasSent w' (Finalize r.0.exec r.0.view z r.3.0.content)) r.3.2 (ev.proposed r.3.0 r.3.1)) in
       (r.0.view, r.3.0.content, accept_quorum p w' next x r.0.view d r.3.0.content r.0.accepts ev.accepters (λ j i. subst (λ (z : Exec). ((0 < j) × (j ≤ p.replicas)) × AcceptedFact (w'.replica j) z r.0.view) r.2 (ev.accept j i)) r.3.3 sent, sent)
 
   pub abandoned_step : (x : Exec) (o : Option Content) → WasSent w' (Decide x Abandon o) → AbandonLock p.replicas w' x
-  abandoned_step x o t = go (news p w w' q st _ t)
+  abandoned_step x o t = go (origin p w w' q st _ t)
     where
       client : (cs : ClientActs p w w') → DecisionOf p.replicas (w.client cs.c) cs.state cs.sent x Abandon → AbandonLock p.replicas w' x
       client cs (Weighed k vs u acs ph (All_commit a b c) e f g k' z) = cc
       client cs (Weighed k vs u acs ph (One_final a b c) e f g k' z) =
           let v = a_final p.replicas w _ k vs u acs ((evident_reach p pos w q cs.c).phase k vs u acs ph) c in
-          abandon_lock_stays p w w' q st calm x (s.final x v.0 (subst (λ (y : Exec). vote (w.replica v.0) y ≡ Some Final) (sym e) v.1))
-      client cs (Weighed k vs u acs ph (By_quorum a b) e f g k' z) = abandon_lock_stays p w w' q st calm x (Accepted_abandon 0 (weighed cs x Abandon k vs u acs ph a b e).0)
+          abandon_lock_stays p w w' q st commit_ground x (s.final x v.0 (subst (λ (y : Exec). vote (w.replica v.0) y ≡ Some Final) (sym e) v.1))
+      client cs (Weighed k vs u acs ph (By_quorum a b) e f g k' z) = abandon_lock_stays p w w' q st commit_ground x (Accepted_abandon 0 (weighed cs x Abandon k vs u acs ph a b e).0)
       client cs (Gave_up run d e f g k' z) = gave_up cs x k' run e f g z
 
-      go : News p w w' (Decide x Abandon o) → AbandonLock p.replicas w' x
-      go (Old z) = abandon_lock_stays p w w' q st calm x (s.abandoned x o z)
+      go : Origin p w w' (Decide x Abandon o) → AbandonLock p.replicas w' x
+      go (Old z) = abandon_lock_stays p w w' q st commit_ground x (s.abandoned x o z)
       go (Of_replica r f) = absurd f
       go (Of_client cs i) = client cs (decision_of (rules p cs.c) (GotAt w cs.c) (w.client cs.c) cs.state cs.sent cs.act x Abandon o i)
-      go (Of_warden ws a i e f) = let r = raced ws x Abandon o (ward_decided (warden_rules p ws.k) (HeardAt w ws.k) (w.warden ws.k) ws.state ws.sent ws.act a x Abandon o i e) in Accepted_abandon r.0 r.2
+      go (Of_warden ws a i e f) = let r = round_decided ws x Abandon o (ward_decided (warden_rules p ws.k) (HeardAt w ws.k) (w.warden ws.k) ws.state ws.sent ws.act a x Abandon o i e) in Accepted_abandon r.0 r.2
 
   pub committed_step : (x : Exec) (o : Option Content) → WasSent w' (Decide x ToCommit o) → CommitLock p.replicas w' x × Quorum p.replicas (VotedCommit w' x)
-  committed_step x o t = go (news p w w' q st _ t)
+  committed_step x o t = go (origin p w w' q st _ t)
     where
       more : Quorum p.replicas (VotedCommit w x) → Quorum p.replicas (VotedCommit w' x)
       more a = quorum_map p.replicas _ _ (λ r h. voted_grows p w w' st x Commit r h) a
@@ -203,9 +203,9 @@ module _ (p : Plan) (pos : 0 < p.replicas) (w w' : World) (q : Reach p w) (calm 
       client cs (Weighed k vs u acs ph (By_quorum a b) e f g k' z) = let h = weighed cs x ToCommit k vs u acs ph a b e in (commit_lock_stays p w w' q st x (Accepted_commit 0 h.0), more (s.proposals.commit x 0 _ h.1))
       client cs (Gave_up run d e f g k' z) = cc
 
-      go : News p w w' (Decide x ToCommit o) → CommitLock p.replicas w' x × Quorum p.replicas (VotedCommit w' x)
+      go : Origin p w w' (Decide x ToCommit o) → CommitLock p.replicas w' x × Quorum p.replicas (VotedCommit w' x)
       go (Old z) = let h = s.committed x o z in (commit_lock_stays p w w' q st x h.0, more h.1)
       go (Of_replica r f) = absurd f
       go (Of_client cs i) = client cs (decision_of (rules p cs.c) (GotAt w cs.c) (w.client cs.c) cs.state cs.sent cs.act x ToCommit o i)
-      go (Of_warden ws a i e f) = let r = raced ws x ToCommit o (ward_decided (warden_rules p ws.k) (HeardAt w ws.k) (w.warden ws.k) ws.state ws.sent ws.act a x ToCommit o i e) in
-          (Accepted_commit r.0 r.2, (proposals_step p pos w w' q calm st s).commit x r.0 r.1 r.3)
+      go (Of_warden ws a i e f) = let r = round_decided ws x ToCommit o (ward_decided (warden_rules p ws.k) (HeardAt w ws.k) (w.warden ws.k) ws.state ws.sent ws.act a x ToCommit o i e) in
+          (Accepted_commit r.0 r.2, (proposals_step p pos w w' q commit_ground st s).commit x r.0 r.1 r.3)

@@ -34,8 +34,8 @@ use Rattle.protocol_steps.proofs.Wards.WAct.{Stills, Asks, Tolds, Accepts as War
 use Rattle.protocol_steps.proofs.Reach.{Reach, GotAt, HeardAt}
 use Rattle.protocol_steps.proofs.Reach.From.{Begins, Next}
 use Rattle.protocol_steps.proofs.Provenance.{parcel_body}
-use Rattle.safety.proofs.Stays.{News, news}
-use Rattle.safety.proofs.Stays.News.{Old, Of_replica, Of_client, Of_warden}
+use Rattle.safety.proofs.Stays.{Origin, origin}
+use Rattle.safety.proofs.Stays.Origin.{Old, Of_replica, Of_client, Of_warden}
 use Rattle.safety.proofs.WardEvidence.{ward_reach}
 use Rattle.safety.proofs.ClientSent.{quiet_not, in_single, in_none}
 use Rattle.safety.proofs.WardSent.{ward_decided, in_parcels, no_parcels, to_client_body}
@@ -128,9 +128,9 @@ ward_dropped r Got s s' sent (Ward_accepts y u j a0 p f n got range l e e2 (inr 
 
 pub shaped_reach : (p : Plan) → 0 < p.replicas → (w : World) → Reach p w → (x : Exec) (d : Choice) (o : Option Content) → WasSent w (Decide x d o) → Shaped d o
 shaped_reach p pos _ Begins x d o t = absurd t.there
-shaped_reach p pos _ (Next w w' q st) x d o t = go (λ z. shaped_reach p pos w q x d o z) (news p w w' q st _ t)
+shaped_reach p pos _ (Next w w' q st) x d o t = go (λ z. shaped_reach p pos w q x d o z) (origin p w w' q st _ t)
   where
-    go : (WasSent w (Decide x d o) → Shaped d o) → News p w w' (Decide x d o) → Shaped d o
+    go : (WasSent w (Decide x d o) → Shaped d o) → Origin p w w' (Decide x d o) → Shaped d o
     go ih (Old z) = ih z
     go ih (Of_replica r f) = absurd f
     go ih (Of_client cs i) = client_shaped (rules p cs.c) (GotAt w cs.c) (w.client cs.c) cs.state cs.sent cs.act x d o i

@@ -46,23 +46,23 @@ use Rattle.safety.specs.Locks.AbandonLock.{Accepted_abandon, All_shut}
 use Rattle.safety.specs.Locks.CommitLock.{Accepted_commit, Fast}
 
 -- a body in the mail after a step is old, or was sent in it
-pub data News (p : Plan) (w w' : World) (b : Body) : Type 0 where
-  Old : WasSent w b → News p w w' b
-  Of_replica : (r : ℕ) → RFact r (w'.replica r) b → News p w w' b
-  Of_client : (s : ClientActs p w w') → IsIn b s.sent → News p w w' b
-  Of_warden : (s : WardenActs p w w') (a : Parcel) → IsIn a s.sent → b ≡ parcel_body a → WFact p.wardens s.k (w'.warden s.k) b → News p w w' b
+pub data Origin (p : Plan) (w w' : World) (b : Body) : Type 0 where
+  Old : WasSent w b → Origin p w w' b
+  Of_replica : (r : ℕ) → RFact r (w'.replica r) b → Origin p w w' b
+  Of_client : (s : ClientActs p w w') → IsIn b s.sent → Origin p w w' b
+  Of_warden : (s : WardenActs p w w') (a : Parcel) → IsIn a s.sent → b ≡ parcel_body a → WFact p.wardens s.k (w'.warden s.k) b → Origin p w w' b
 
-pub news : (p : Plan) (w w' : World) → Reach p w → Step p w w' → (b : Body) → WasSent w' b → News p w w' b
-news p w w' q (Stands s) b t = Old (record { envelope = t.envelope; there = rw s.mail at t.there; body = t.body })
-news p w w' q (Client_acts s) b t = elim (IsIn-cases t.envelope w.mail _ (rw s.mail at t.there)) [
+pub origin : (p : Plan) (w w' : World) → Reach p w → Step p w w' → (b : Body) → WasSent w' b → Origin p w w' b
+origin p w w' q (Stands s) b t = Old (record { envelope = t.envelope; there = rw s.mail at t.there; body = t.body })
+origin p w w' q (Client_acts s) b t = elim (IsIn-cases t.envelope w.mail _ (rw s.mail at t.there)) [
   | inl i ↦ Old (record { envelope = t.envelope; there = i; body = t.body })
   | inr i ↦ Of_client s (subst (λ z. IsIn z s.sent) t.body (from_to_all p.replicas (Client s.c) s.sent t.envelope i).1)
 ]
-news p w w' q (Replica_acts s) b t = elim (IsIn-cases t.envelope w.mail _ (rw s.mail at t.there)) [
+origin p w w' q (Replica_acts s) b t = elim (IsIn-cases t.envelope w.mail _ (rw s.mail at t.there)) [
   | inl i ↦ Old (record { envelope = t.envelope; there = i; body = t.body })
   | inr i ↦ Of_replica s.r (subst (RFact s.r (w'.replica s.r)) t.body ((facts_reach p w' (Next w w' q (Replica_acts s))).said t.envelope s.r t.there (spoken p.firsts s.r (w.replica s.r) s.m t.envelope i).0))
 ]
-news p w w' q (Warden_acts s) b t = elim (IsIn-cases t.envelope w.mail _ (rw s.mail at t.there)) [
+origin p w w' q (Warden_acts s) b t = elim (IsIn-cases t.envelope w.mail _ (rw s.mail at t.there)) [
   | inl i ↦ Old (record { envelope = t.envelope; there = i; body = t.body })
   | inr i ↦ let k = from_parcels p.replicas (Warden s.k) s.sent t.envelope i in Of_warden s k.1 k.2 (sym t.body ∙ k.3) (subst (WFact p.wardens s.k (w'.warden s.k)) t.body ((ward_facts_reach p w' (Next w w' q (Warden_acts s))).said t.envelope s.k t.there k.0))
 ]
@@ -89,9 +89,9 @@ not_over x s e b (inr h) = b h.1
 
 -- of what is over nothing is prepared any more, and nothing proposed by the client
 pub no_prepare : (p : Plan) (w w' : World) → Reach p w → Step p w w' → (x : Exec) → Over x (w.client x.ver.client) → (k : Content) → WasSent w' (Prepare x k) → WasSent w (Prepare x k)
-no_prepare p w w' q s x o k t = go (news p w w' q s (Prepare x k) t)
+no_prepare p w w' q s x o k t = go (origin p w w' q s (Prepare x k) t)
   where
-    go : News p w w' (Prepare x k) → WasSent w (Prepare x k)
+    go : Origin p w w' (Prepare x k) → WasSent w (Prepare x k)
     go (Old t) = t
     go (Of_replica r f) = absurd f
     go (Of_warden s a i e f) = absurd f
@@ -100,9 +100,9 @@ no_prepare p w w' q s x o k t = go (news p w w' q s (Prepare x k) t)
         absurd (not_over x (w.client s.c) n.0 (running_between _ n.1) (subst (λ z. Over x (w.client z)) mine o))
 
 pub no_finalize : (p : Plan) (w w' : World) → Reach p w → Step p w w' → (x : Exec) → Over x (w.client x.ver.client) → (d : Choice) (u : Option Content) → WasSent w' (Finalize x 0 d u) → WasSent w (Finalize x 0 d u)
-no_finalize p w w' q s x o d u t = go (news p w w' q s (Finalize x 0 d u) t)
+no_finalize p w w' q s x o d u t = go (origin p w w' q s (Finalize x 0 d u) t)
   where
-    go : News p w w' (Finalize x 0 d u) → WasSent w (Finalize x 0 d u)
+    go : Origin p w w' (Finalize x 0 d u) → WasSent w (Finalize x 0 d u)
     go (Old t) = t
     go (Of_replica r f) = absurd f
     go (Of_warden a b i e f) = let v = warden_view p w' (Next w w' q s) a.k x 0 f.1.0 f.1.1 in let z : 0 ≡ a.k + v.0 * p.wardens = v.1 in let l = f.0.0 in absurd (omega (arith, z, l))
@@ -128,7 +128,7 @@ vote_frozen_decided : (h : Handled) (m : Envelope) (x : Exec) (d : Choice) → d
 vote_frozen_decided h m x d p = vote_stands h m x (λ e. some_not_none (decided h x) d p (may_vote_undecided h (casts h) x e))
 
 -- what the clause on conflicts needs of a world
-pub record Calm (w : World) : Type 0 where
+pub record CommitGround (w : World) : Type 0 where
   pub agree : (y : Exec) (o u : Option Content) → WasSent w (Decide y Abandon o) → WasSent w (Decide y ToCommit u) → ⊥
   pub content : (r : ℕ) (c : Cast) → IsIn c (casts (w.replica r)) → (l : Kept) → IsIn l (commits (w.replica r)) → l.exec ≡ c.exec → l.content ≡ c.content
   pub bases : Bases w
@@ -138,7 +138,7 @@ pub cast_sent : (p : Plan) (w : World) → Reach p w → (r : ℕ) (c : Cast) �
 cast_sent p w q r c i = let m = cast_prepare (w.replica r) c i in record { envelope = m.0; there = ((took_reach p w q).took r m.0 m.1).0; body = m.2 }
 
 -- who voted Commit on something committed in conflict with x, and not on x, does not vote Commit on x
-not_voted : (p : Plan) (w w' : World) → Reach p w → Step p w w' → Calm w → (x : Exec) (r : ℕ) (k : Content) → WasSent w (Prepare x k) → (c : Cast) → IsIn c (casts (w.replica r)) → c.vote ≡ Commit → conflicts x.ver k c.exec.ver c.content ≡ true → (o : Option Content) → WasSent w (Decide c.exec ToCommit o)
+not_voted : (p : Plan) (w w' : World) → Reach p w → Step p w w' → CommitGround w → (x : Exec) (r : ℕ) (k : Content) → WasSent w (Prepare x k) → (c : Cast) → IsIn c (casts (w.replica r)) → c.vote ≡ Commit → conflicts x.ver k c.exec.ver c.content ≡ true → (o : Option Content) → WasSent w (Decide c.exec ToCommit o)
     → vote (w.replica r) x ≢ Some Commit → vote (w'.replica r) x ≢ Some Commit
 not_voted p w w' q (Stands s) a x r k t c i v f o d n = subst (λ (g : ℕ → Handled). vote (g r) x ≢ Some Commit) (sym s.replica) n
 not_voted p w w' q (Client_acts s) a x r k t c i v f o d n = subst (λ (g : ℕ → Handled). vote (g r) x ≢ Some Commit) (sym s.replica) n
@@ -170,7 +170,7 @@ fenced_vote h m x n u e = elim (new_vote h m x Commit e) [
 ]
 
 -- who is shut stays shut
-pub shut_stays : (p : Plan) (w w' : World) → Reach p w → Step p w w' → Calm w → (x : Exec) (r : ℕ) → Shut w x r → Shut w' x r
+pub shut_stays : (p : Plan) (w w' : World) → Reach p w → Step p w w' → CommitGround w → (x : Exec) (r : ℕ) → Shut w x r → Shut w' x r
 shut_stays p w w' q s a x r (Voted_other v n e) = Voted_other v n (voted_grows p w w' s x v r e)
 shut_stays p w w' q s a x r (Has_promised n l) =
     let k = replica_grows p w w' s (λ h. (vote h x ≢ Some Commit) × (0 < promised h x)) (λ h m f. (λ e. f.0 (sym (vote_frozen h m x f.1) ∙ e), (let g = promised_grows h m x in let l = f.1 in omega (arith, g, l)))) r (n, l) in Has_promised k.0 k.1
@@ -182,7 +182,7 @@ shut_stays p w w' q s a x r (Unsent n o) = Unsent (λ k t. n k (no_prepare p w w
 shut_stays p w w' q s a x r (Conflicting n k t c i v f o d) = Conflicting (not_voted p w w' q s a x r k t c i v f o d n) k (sent_grows p w w' s _ t) c
     (replica_grows p w w' s (λ h. IsIn c (casts h)) (λ h m j. IsIn-right c (new_cast h (casts h) m.body) (casts h) j) r i) v f o (sent_grows p w w' s _ d)
 
-pub abandon_lock_stays : (p : Plan) (w w' : World) → Reach p w → Step p w w' → Calm w → (x : Exec) → AbandonLock p.replicas w x → AbandonLock p.replicas w' x
+pub abandon_lock_stays : (p : Plan) (w w' : World) → Reach p w → Step p w w' → CommitGround w → (x : Exec) → AbandonLock p.replicas w x → AbandonLock p.replicas w' x
 abandon_lock_stays p w w' q s c x (Accepted_abandon v a) = Accepted_abandon v (quorum_map _ _ _ (λ r h. accepted_grows p w w' s x v Abandon r h) a)
 abandon_lock_stays p w w' q s c x (All_shut a) = All_shut (quorum_map _ _ _ (λ r h. shut_stays p w w' q s c x r h) a)
 

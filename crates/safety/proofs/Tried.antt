@@ -26,8 +26,8 @@ use Rattle.protocol_steps.proofs.Reach.From.{Begins, Next}
 use Rattle.protocol_steps.proofs.ClientFacts.{At, HasPrepared, rec_reach}
 use Rattle.safety.proofs.One.{prepare_from, earlier_itself, not_at, running_between, running_prepared}
 use Rattle.safety.proofs.Locks.{voted_prepared}
-use Rattle.safety.proofs.Stays.{News, news}
-use Rattle.safety.proofs.Stays.News.{Old, Of_replica, Of_client, Of_warden}
+use Rattle.safety.proofs.Stays.{Origin, origin}
+use Rattle.safety.proofs.Stays.Origin.{Old, Of_replica, Of_client, Of_warden}
 use Rattle.safety.proofs.Evidence.{decisions_reach}
 use Rattle.safety.proofs.ClientSent.{quiet_not, in_single, in_none}
 use Rattle.safety.proofs.Cuts.{CommitSent, apart_locks}
@@ -105,9 +105,9 @@ prepares_act r Got s s' sent (Learns j d0 k0 n got e d' f q) x k i = absurd (in_
 
 fresh : (p : Plan) (w w' : World) → Reach p w → Step p w w' → (x : Exec) (k : Content) → WasSent w' (Prepare x k)
     → WasSent w (Prepare x k) ⊎ ((x ≡ (w.client x.ver.client).exec) × IsRunning (w.client x.ver.client).phase × ((w'.client x.ver.client).exec ≡ (w.client x.ver.client).exec))
-fresh p w w' q st x k t = go (news p w w' q st _ t)
+fresh p w w' q st x k t = go (origin p w w' q st _ t)
   where
-    go : News p w w' (Prepare x k) → WasSent w (Prepare x k) ⊎ ((x ≡ (w.client x.ver.client).exec) × IsRunning (w.client x.ver.client).phase × ((w'.client x.ver.client).exec ≡ (w.client x.ver.client).exec))
+    go : Origin p w w' (Prepare x k) → WasSent w (Prepare x k) ⊎ ((x ≡ (w.client x.ver.client).exec) × IsRunning (w.client x.ver.client).phase × ((w'.client x.ver.client).exec ≡ (w.client x.ver.client).exec))
     go (Old z) = inl z
     go (Of_replica r f) = absurd f
     go (Of_warden ws a i e f) = absurd f

@@ -27,8 +27,8 @@ to_client_body r x c b i = go (nat_lt 0 x.ver.client && nat_le x.ver.client r.cl
     go false i = absurd i
 
 -- the round that a warden decided
-abbrev pub DecidedRace : ℕ → WardenState → Exec → Choice → Option Content → Type 0
-DecidedRace n s x d o = (a : Round) × IsIn a s.rounds × (a.exec ≡ x) × ((y : Proposal) × (a.proposal ≡ Some y) × (y.choice ≡ d) × (quorum n ≤ length a.accepts) × (y.content ≡ o))
+abbrev pub DecidedRound : ℕ → WardenState → Exec → Choice → Option Content → Type 0
+DecidedRound n s x d o = (a : Round) × IsIn a s.rounds × (a.exec ≡ x) × ((y : Proposal) × (a.proposal ≡ Some y) × (y.choice ≡ d) × (quorum n ≤ length a.accepts) × (y.content ≡ o))
 
 pub in_parcels : (ps : List Parcel) (c b : Parcel) → ps ≡ c ∷ [] → IsIn b ps → b ≡ c
 in_parcels ps c b e i = elim (subst (λ (l : List Parcel). IsIn b l) e i) [ inl z ↦ z | inr z ↦ absurd z ]
@@ -36,7 +36,7 @@ in_parcels ps c b e i = elim (subst (λ (l : List Parcel). IsIn b l) e i) [ inl 
 pub no_parcels : (ps : List Parcel) (b : Parcel) → ps ≡ [] → IsIn b ps → ⊥
 no_parcels ps b e i = subst (λ (l : List Parcel). IsIn b l) e i
 
-pub ward_decided : (r : WardenRules) (Got : NodeId → Body → Type 0) (s s' : WardenState) (sent : List Parcel) → WAct r Got s s' sent → (a : Parcel) (x : Exec) (d : Choice) (o : Option Content) → IsIn a sent → Decide x d o ≡ parcel_body a → DecidedRace r.replicas s' x d o
+pub ward_decided : (r : WardenRules) (Got : NodeId → Body → Type 0) (s s' : WardenState) (sent : List Parcel) → WAct r Got s s' sent → (a : Parcel) (x : Exec) (d : Choice) (o : Option Content) → IsIn a sent → Decide x d o ≡ parcel_body a → DecidedRound r.replicas s' x d o
 unfolding recover next_view
 ward_decided r Got s s' sent (Stills e q) a x d o i z = absurd (no_parcels sent a q i)
 ward_decided r Got s s' sent (Asks y e q) a x d o i z = let k = ap parcel_body (in_parcels sent _ a q i) in cc
@@ -52,7 +52,7 @@ ward_decided r Got s s' sent (Ward_accepts y v j a0 p f n got range l e e2 (inr 
     body (inl h) = ap parcel_body h
     body (inr h) = to_client_body r y (Decide y p.choice p.content) a h
 
-    hit : parcel_body a ≡ Decide y p.choice p.content → DecidedRace r.replicas s' x d o
+    hit : parcel_body a ≡ Decide y p.choice p.content → DecidedRound r.replicas s' x d o
     hit h = let g = round_found y v s.rounds a0 f in
         let here = round_found y v (with_round y v (with_accept a0 p j) s.rounds) (with_accept a0 p j) (put_found y v (with_accept a0 p j) s.rounds a0 g.1 g.2 f) in
         let same : Decide x d o ≡ Decide y p.choice p.content = z ∙ h in

@@ -242,4 +242,3 @@ module _ (r : Rules) (prog : (n : ℕ) → IsProgram (walk_at (slice_get r.txns 
       go : (o : Option ℕ) → place_of k 0 (walk r c).keys ≡ o → Good (elim o [ None ↦ c | Some i ↦ follow_prepared c i (answer_at c i) new (effect (next_label (answer_at c i)) new lost) ])
       go None e = g
       go (Some i) e = follow_prepared_ok c i k new (effect (next_label (answer_at c i)) new lost) g n (only_at c k i e) (λ z. effect_sure (next_label (answer_at c i)) new lost z)
-      -- votes
