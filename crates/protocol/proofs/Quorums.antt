@@ -1,8 +1,11 @@
+use Rattle.std.proofs.Common.{ap, refl, sym, subst, [], ◌∷◌, ◌<◌, ◌≤◌}
+use Rattle.std.specs.Prelude.{map, suc}
+use Rattle.protocol.proofs.Members.{IsIn-map}
 use Rattle.std.proofs.Common.{◌≡◌, ℕ, ◌<◌, ◌≤◌, ◌+◌, ◌/◌, ◌⊎◌, ◌≢◌, inl, inr, refl, ap, sym, ◌∙◌, subst, true, false, Bool, cond, List, [], ◌∷◌, ◌++◌, length, arith, length-append}
 use Rattle.std.specs.Prelude.{zero, suc, ◌==◌, not, filter}
 use Rattle.std.proofs.lemmas.Bool.Decides.{eqb_tells}
 use Rattle.protocol.specs.Lists.{IsIn}
-use Rattle.protocol.specs.Quorums.{IsDistinct, Quorum}
+use Rattle.protocol.specs.Quorums.{quorum, IsDistinct, Quorum}
 use Rattle.protocol.proofs.Members.{IsIn-cases}
 
 pub decide_in : (r : ℕ) (xs : List ℕ) → IsIn r xs ⊎ (IsIn r xs → ⊥)
@@ -85,3 +88,20 @@ quorums_meet n P Q a b = elim (share_or_apart a.members b.members a.distinct b.d
       let u : suc (n / 2) ≤ length a.members = a.many in let v : suc (n / 2) ≤ length b.members = b.many in
       absurd (omega arith)
 ]
+
+-- what a quorum of distinct replicas sent names a quorum
+pub named_quorum : {A : Type 0} (name : A → ℕ) (n : ℕ) (xs : List A) → IsDistinct (map name xs) → ((a : A) → IsIn a xs → (0 < name a) × (name a ≤ n)) → quorum n ≤ length xs → Quorum n (λ r. (a : A) × IsIn a xs × (name a ≡ r))
+named_quorum {A = A} name n xs distinct range many = record {
+  members = map name xs;
+  distinct = distinct;
+  ranged = λ r i. let k = IsIn-map name r xs i in subst (λ z. (0 < z) × (z ≤ n)) (sym k.2) (range k.0 k.1);
+  each = λ r i. let k = IsIn-map name r xs i in (k.0, k.1, sym k.2);
+  many = rw length_names many;
+}
+  where
+    length_names : length (map name xs) ≡ length xs
+    length_names = go xs
+      where
+        go : (ys : List A) → length (map name ys) ≡ length ys
+        go [] = refl
+        go (y ∷ ys) = ap suc (go ys)

@@ -1,5 +1,5 @@
 -- What is decided and committed in a world, and its base at a version.
-use Rattle.std.specs.Prelude.{◌≡◌, true, false, List, [], ◌∷◌, Option, Some, option_map, find, ◌⊎◌}
+use Rattle.std.specs.Prelude.{◌≡◌, false, List, Option, Some, option_map, find, ◌⊎◌}
 use Rattle.morty_base.specs.declared.names.Version.{Version}
 use Rattle.morty_base.specs.declared.names.Exec.{Exec}
 use Rattle.morty_base.specs.declared.names.NodeId.{NodeId}
@@ -11,7 +11,7 @@ use Rattle.msg.specs.declared.Content.{Content}
 use Rattle.msg.specs.declared.Body.TheVariants.{Prepare, Finalize, Decide, Told, Fenced}
 use Rattle.msg.specs.declared.Body.{Body}
 use Rattle.morty_base.specs.Names.{same_exec, before, key_before, wid_before}
-use Rattle.protocol.specs.Lists.{IsIn}
+use Rattle.protocol.specs.Lists.{IsIn, IsRisingBy}
 use Rattle.protocol.specs.Replica.{decided}
 use Rattle.protocol.specs.Warden.{decision_on, DecidedProposal}
 use Rattle.msg.specs.declared.BaseEntry.{BaseEntry}
@@ -41,6 +41,13 @@ pub record WasSent (w : World) (b : Body) : Type 0 where
   pub there : IsIn envelope w.mail
   pub body : envelope.body ≡ b
 
+-- a node sent a body
+pub record WasSentBy (w : World) (n : NodeId) (b : Body) : Type 0 where
+  pub envelope : Envelope
+  pub there : IsIn envelope w.mail
+  pub from : envelope.from ≡ n
+  pub body : envelope.body ≡ b
+
 -- a is at or below b
 abbrev pub UpTo : Version → Version → Type 0
 UpTo a b = before b a ≡ false
@@ -65,8 +72,7 @@ pub record IsWrite (w : World) (v : Version) (d : BaseEntry) : Type 0 where
 
 -- the entries stand in rising order of key
 abbrev pub IsRising : List BaseEntry → Type 0
-IsRising [] = Unit {0}
-IsRising (d ∷ ds) = ((e : BaseEntry) → IsIn e ds → key_before d.key e.key ≡ true) × IsRising ds
+IsRising bs = IsRisingBy (λ d e. key_before d.key e.key) bs
 
 -- the base of a world at v: rising by key, for each key with a write at or below v the one of the greatest name
 pub record IsBase (w : World) (v : Version) (bs : List BaseEntry) : Type 0 where

@@ -17,6 +17,7 @@ pub mod Truncation
 pub mod World
 pub mod Programs
 pub mod Decided
+pub mod Outcome
 pub mod Steps
 pub mod Laws
 pub mod Samples

@@ -30,3 +30,8 @@ upto (suc n) = upto n ++ (suc n ∷ [])
 abbrev pub tally : {A : Type 0} → (A → Bool) → List A → ℕ
 tally p [] = 0
 tally p (x ∷ xs) = cond (p x) (suc (tally p xs)) (tally p xs)
+
+-- each element comes before all that stand after it
+abbrev pub IsRisingBy : {A : Type 0} → (A → A → Bool) → List A → Type 0
+IsRisingBy earlier [] = Unit {0}
+IsRisingBy {A = A} earlier (x ∷ xs) = ((y : A) → IsIn y xs → earlier x y ≡ true) × IsRisingBy earlier xs

@@ -1,3 +1,4 @@
+use Rattle.std.proofs.Common.{subst, sym}
 use Rattle.std.proofs.Common.{◌≡◌, ℕ, ◌<◌, ◌≤◌, ◌⊎◌, ◌≢◌, inl, inr, refl, ap, sym, ◌∙◌, subst, true, false, Bool, cond, List, [], ◌∷◌, ◌++◌, Option, Some, arith}
 use Rattle.std.specs.Prelude.{option_map, nat_le, ◌==◌}
 use Rattle.morty_base.specs.declared.names.Exec.{Exec}
@@ -51,22 +52,26 @@ may_vote_zero : (h : Handled) (old : List Cast) (z : Exec) → may_vote h old z 
 unfolding may_vote
 may_vote_zero h old z e = eqb_is (promised h z) 0 (and_left (promised h z == 0) _ e)
 
--- with a view above 0 promised, nothing is voted any more
-pub vote_frozen : (h : Handled) (m : Envelope) (x : Exec) → 0 < promised h x → vote (m ∷ h) x ≡ vote h x
-vote_frozen h m x p = ap (λ (o : Option Cast). option_map (λ (y : Cast). y.vote) o) (go m.body)
+-- where no vote on x may be cast, the vote on x stands
+pub vote_stands : (h : Handled) (m : Envelope) (x : Exec) → (may_vote h (casts h) x ≡ true → ⊥) → vote (m ∷ h) x ≡ vote h x
+vote_stands h m x none = ap (λ (o : Option Cast). option_map (λ (y : Cast). y.vote) o) (go m.body)
   where
-    same2 : (z : Exec) (new : Cast) (t : Bool) → may_vote h (casts h) z ≡ true → ((t ≡ true) × (x ≡ z)) ⊎ ((t ≡ false) × (x ≢ z)) → cond t (Some new) (cast_on x (casts h)) ≡ cast_on x (casts h)
-    same2 z new true q (inl e) = let k = may_vote_zero h (casts h) z q in let f : x ≡ z = e.1 in let o : promised h x ≡ 0 = rw f k in absurd (omega arith)
-    same2 z new true q (inr e) = cc
-    same2 z new false q e = refl
+    other : (z : Exec) (new : Cast) (t : Bool) → may_vote h (casts h) z ≡ true → ((t ≡ true) × (x ≡ z)) ⊎ ((t ≡ false) × (x ≢ z)) → cond t (Some new) (cast_on x (casts h)) ≡ cast_on x (casts h)
+    other z new true q (inl e) = absurd (none (subst (λ (y : Exec). may_vote h (casts h) y ≡ true) (sym e.1) q))
+    other z new true q (inr e) = cc
+    other z new false q e = refl
 
     same : (z : Exec) (c : Content) (t : Bool) → may_vote h (casts h) z ≡ t → cast_on x (one_when t (record { exec = z; content = c; vote = verdict h (casts h) z c }) ++ casts h) ≡ cast_on x (casts h)
-    same z c true q = same2 z _ (same_exec x z) q (same_exec_tells x z)
+    same z c true q = other z _ (same_exec x z) q (same_exec_tells x z)
     same z c false q = refl
 
     go : (b : Body) → cast_on x (new_cast h (casts h) b ++ casts h) ≡ cast_on x (casts h)
     go (Prepare z c) = same z c (may_vote h (casts h) z) refl
     go _ = refl
+
+-- with a view above 0 promised, nothing is voted any more
+pub vote_frozen : (h : Handled) (m : Envelope) (x : Exec) → 0 < promised h x → vote (m ∷ h) x ≡ vote h x
+vote_frozen h m x p = vote_stands h m x (λ e. let k = may_vote_zero h (casts h) x e in absurd (omega (arith, k, p)))
 
 -- the last accepted pair on x is the newest acceptance, and each of x is at or below its view
 pub accept_on_backed : (x : Exec) (accepts : List Acceptance) (b : Accept) → option_map pair_of (accept_on x accepts) ≡ Some b → (a : Acceptance) × IsIn a accepts × (a.exec ≡ x) × (a.view ≡ b.view) × (a.choice ≡ b.choice)

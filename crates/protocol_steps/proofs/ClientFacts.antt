@@ -12,6 +12,7 @@ use Rattle.protocol.specs.Deciding.{content_for}
 use Rattle.protocol.specs.Client.Phase.{Between, Running, Prepared}
 use Rattle.protocol.specs.World.{Plan, World, rules}
 use Rattle.protocol_steps.specs.Executions.{Over, IsEarlier}
+use Rattle.protocol_steps.proofs.Phases.{running_under_way, prepared_under_way}
 use Rattle.protocol_steps.proofs.Acts.{Act, IsQuiet, AllQuiet, IsRunning, IsUnprepared, IsUnderWay, SameStage, WasBegun}
 use Rattle.protocol_steps.proofs.Acts.Act.{Quiet, Advances, Prepares, Counts, Proposes, Accepts, Decides, Gives_up, Learns}
 use Rattle.protocol_steps.proofs.Reach.{Reach, GotAt}
@@ -117,14 +118,6 @@ proposed_more d k' k vs ws None o' acs acs' e h = absurd h
 proposed_more d k' k vs ws (Some e') o' acs acs' (inl e) h = cc
 proposed_more d k' k vs ws (Some e') o' acs acs' (inr e) h = rw (← e) h
 
-under_way_prepared : (p : Phase) (k : Content) (vs : List CountedVote) (o : Option Choice) (acs : List ℕ) → p ≡ Prepared k vs o acs → IsUnderWay p
-under_way_prepared p k vs o acs e = rw e tt
-
-under_way_running : (p : Phase) → IsRunning p → IsUnderWay p
-under_way_running Between h = absurd h
-under_way_running (Running a b) h = tt
-under_way_running (Prepared k v o a) h = tt
-
 stage_under_way : (p q : Phase) → SameStage p q → IsUnderWay q → IsUnderWay p
 stage_under_way Between q s u = absurd (under_way_not q u s)
 stage_under_way (Running a b) q s u = tt
@@ -152,12 +145,12 @@ module _ (r : Rules) (Got : NodeId → Body → Type 0) (s s' : ClientState) (se
       go (inl f) = f
       go (inr (f, inl u)) = rw f (t.own u)
       go (inr (f, inr d)) = rw (f, ← d.2) (t.done d.0 d.1).0
-  act_rec (Prepares k n e d f q) t = record { own = λ u. own_same t (under_way_running s.phase n) e; done = decided_old t (Prepares k n e d f q) d }
-  act_rec (Counts k vs acs j v a got b c e d f q) t = record { own = λ u. own_same t (under_way_prepared _ _ _ _ _ a) e; done = decided_old t (Counts k vs acs j v a got b c e d f q) d }
-  act_rec (Proposes k vs acs d0 a b e d f q) t = record { own = λ u. own_same t (under_way_prepared _ _ _ _ _ a) e; done = decided_old t (Proposes k vs acs d0 a b e d f q) d }
-  act_rec (Accepts k vs d0 acs j a got b c e d f q) t = record { own = λ u. own_same t (under_way_prepared _ _ _ _ _ a) e; done = decided_old t (Accepts k vs d0 acs j a got b c e d f q) d }
-  act_rec (Decides k vs o' acs d0 a w e d f q) t = record { own = λ u. own_same t (under_way_prepared _ _ _ _ _ a) e; done = decided_new t (Decides k vs o' acs d0 a w e d f q) (under_way_prepared _ _ _ _ _ a) e f d0 d }
-  act_rec (Gives_up n e d f q) t = record { own = λ u. own_same t (under_way_running s.phase n) e; done = decided_new t (Gives_up n e d f q) (under_way_running s.phase n) e f Abandon d }
+  act_rec (Prepares k n e d f q) t = record { own = λ u. own_same t (running_under_way s.phase n) e; done = decided_old t (Prepares k n e d f q) d }
+  act_rec (Counts k vs acs j v a got b c e d f q) t = record { own = λ u. own_same t (prepared_under_way _ _ _ _ _ a) e; done = decided_old t (Counts k vs acs j v a got b c e d f q) d }
+  act_rec (Proposes k vs acs d0 a b e d f q) t = record { own = λ u. own_same t (prepared_under_way _ _ _ _ _ a) e; done = decided_old t (Proposes k vs acs d0 a b e d f q) d }
+  act_rec (Accepts k vs d0 acs j a got b c e d f q) t = record { own = λ u. own_same t (prepared_under_way _ _ _ _ _ a) e; done = decided_old t (Accepts k vs d0 acs j a got b c e d f q) d }
+  act_rec (Decides k vs o' acs d0 a w e d f q) t = record { own = λ u. own_same t (prepared_under_way _ _ _ _ _ a) e; done = decided_new t (Decides k vs o' acs d0 a w e d f q) (prepared_under_way _ _ _ _ _ a) e f d0 d }
+  act_rec (Gives_up n e d f q) t = record { own = λ u. own_same t (running_under_way s.phase n) e; done = decided_new t (Gives_up n e d f q) (running_under_way s.phase n) e f Abandon d }
   act_rec (Learns j d0 k n got e d f q) t = record { own = λ u. own_same t n e; done = decided_new t (Learns j d0 k n got e d f q) n e f d0 d }
 
   decisions_grow : Act r Got s s' sent → (d : Decision) → IsIn d s.decisions → IsIn d s'.decisions
@@ -202,9 +195,9 @@ module _ (r : Rules) (Got : NodeId → Body → Type 0) (s s' : ClientState) (se
   pub said_new : CRec r.client s → Act r Got s s' sent → (b : Body) → IsIn b sent → CFact r.client s' b
   said_new t (Quiet e d g q) b i = quiet_said sent q b i
   said_new t (Advances u n l c d q) b i = none_sent q b i
-  said_new t (Prepares k n e d f q) b i = only _ q (t.own (under_way_running s.phase n), inr (sym e, rw f refl)) b i
+  said_new t (Prepares k n e d f q) b i = only _ q (t.own (running_under_way s.phase n), inr (sym e, rw f refl)) b i
   said_new t (Counts k vs acs j v a got b' c e d f q) b i = none_sent q b i
-  said_new t (Proposes k vs acs d0 a b' e d f q) b i = only _ q (refl, t.own (under_way_prepared _ _ _ _ _ a), inr (sym e, rw f (refl, refl))) b i
+  said_new t (Proposes k vs acs d0 a b' e d f q) b i = only _ q (refl, t.own (prepared_under_way _ _ _ _ _ a), inr (sym e, rw f (refl, refl))) b i
   said_new t (Accepts k vs d0 acs j a got b' c e d f q) b i = none_sent q b i
   said_new t (Decides k vs o' acs d0 a w e d f q) b i = only _ q (rw d (inl refl)) b i
   said_new t (Gives_up n e d f q) b i = only _ q (rw d (inl refl)) b i

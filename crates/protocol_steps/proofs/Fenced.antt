@@ -16,7 +16,7 @@ use Rattle.protocol.specs.Replica.{Handled, takes, is_above, version_of, dropped
 use Rattle.protocol.specs.Votes.{Cast, casts, new_cast}
 use Rattle.protocol.specs.Said.{committed_upto, voted_upto}
 use Rattle.protocol_steps.specs.Fences.{AnsweredOn}
-use Rattle.protocol.proofs.Members.{IsIn-cases, IsIn-right, IsIn-map}
+use Rattle.protocol.proofs.Members.{map_in, IsIn-cases, IsIn-right, IsIn-map}
 use Rattle.protocol.proofs.Grows.{decided_stays}
 use Rattle.protocol_steps.proofs.Known.{IsWell, commit_on, commit_finds, some_from, found}
 use Rattle.protocol_steps.proofs.Votes.{verdict_commit}
@@ -75,11 +75,6 @@ kept_committed h w k i = let j = IsIn-filtered (λ (c : Kept). before (dropped h
     not_up true true e = cc
     not_up true false e = refl
     not_up false b e = cc
-
-pub map_in : {A B : Type 0} (f : A → B) (xs : List A) (a : A) → IsIn a xs → IsIn (f a) (map f xs)
-map_in f [] a i = i
-map_in f (x ∷ xs) a (inl e) = inl (ap f e)
-map_in f (x ∷ xs) a (inr i) = inr (map_in f xs a i)
 
 voted_kept : (h : Handled) (w : Version) (c : Cast) → IsIn c (casts h) → c.vote ≡ Commit → decided h c.exec ≡ None → before (dropped h) c.exec.ver ≡ true → UpTo c.exec.ver w → IsIn (record { exec = c.exec; content = c.content }) (voted_upto h w)
 unfolding voted_upto

@@ -190,3 +190,12 @@ accepted_content_finds (m ∷ h) x a w i e c = go (λ j. accepted_content_finds 
     go ih j (Some k) f = tt
     go ih (inl j) None f = new_content_finds (promised h x) h m.body x a refl w.0 c e j
     go ih (inr j) None f = absurd (subst Finds f (ih j))
+
+-- an option that a function turns into a value
+pub mapped_some : {A B : Type 0} (f : A → B) (o : Option A) (b : B) → option_map f o ≡ Some b → (a : A) × (o ≡ Some a) × (f a ≡ b)
+mapped_some f None b e = cc
+mapped_some f (Some a) b e = (a, refl, cc)
+
+pub choice_cases : (c : Choice) → (c ≡ Abandon) ⊎ (c ≡ ToCommit)
+choice_cases Abandon = inl refl
+choice_cases ToCommit = inr refl

@@ -3,6 +3,8 @@ pub mod Spoken
 pub mod Provenance
 pub mod Accepts
 pub mod Acts
+pub mod Phases
+pub mod ClientChain
 pub mod Reach
 pub mod Known
 pub mod Votes

@@ -14,7 +14,8 @@ use Rattle.protocol.specs.Coordinator.Input.{Goes, Runs, Hurries, Comes}
 use Rattle.msg.specs.declared.Event.{Event}
 use Rattle.protocol.specs.World.{Plan, World, in_range, rules, at, to_all, parcel, warden_rules, first_world, after, replay_from}
 use Rattle.protocol.proofs.Members.{IsIn-left, at_same, at_cases}
-use Rattle.protocol_steps.proofs.Acts.{Act, TryStep, Chain, client_chain, CameTo}
+use Rattle.protocol_steps.proofs.Acts.{Act, TryStep, Chain}
+use Rattle.protocol_steps.proofs.ClientChain.{client_chain, CameTo}
 use Rattle.protocol_steps.proofs.Acts.Act.{Quiet, Advances, Prepares, Counts, Proposes, Accepts, Decides, Gives_up, Learns}
 use Rattle.protocol_steps.proofs.Acts.Chain.{Start, Then}
 use Rattle.protocol.specs.Steps.{Happens, Stayed, ByReplica, Came, Heard}

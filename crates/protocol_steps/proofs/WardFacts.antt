@@ -222,10 +222,10 @@ module _ (r : WardenRules) (Got : NodeId → Body → Type 0) (s s' : WardenStat
   ward_new (Counts_fenced c ts a g got rng l e q) b i = absurd (rw q at i)
   ward_new (Ends_cut c ts g l k e q) b i = only _ q tt b i
 
-wardens_positive : (k n : ℕ) → in_range k n ≡ true → 0 < n
+pub wardens_positive : (k n : ℕ) → in_range k n ≡ true → 0 < n
 wardens_positive k n e = let a = lt_is 0 k (and_left _ _ e) in let b = le_is k n (and_right (nat_lt 0 k) _ e) in omega (arith, a, b)
 
-wardens_range : (k n : ℕ) → in_range k n ≡ true → (0 < k) × (k ≤ n)
+pub wardens_range : (k n : ℕ) → in_range k n ≡ true → (0 < k) × (k ≤ n)
 wardens_range k n e = (lt_is 0 k (and_left _ _ e), le_is k n (and_right (nat_lt 0 k) _ e))
 
 pub wrec_reach : (p : Plan) (w : World) → Reach p w → (k : ℕ) → WRec p.wardens k (w.warden k)

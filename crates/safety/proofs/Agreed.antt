@@ -1,5 +1,4 @@
-use Rattle.std.proofs.Common.{◌≡◌, ℕ, ◌<◌, ◌⊎◌, ◌≢◌, inl, inr, refl, sym, ◌∙◌, subst, true, false, Bool, cond, List, ◌∷◌, Option, Some, None}
-use Rattle.std.specs.Prelude.{option_map}
+use Rattle.std.proofs.Common.{◌≡◌, ℕ, ◌<◌, ◌⊎◌, ◌≢◌, inl, inr, refl, sym, ◌∙◌, subst, true, false, Bool, cond, List, ◌∷◌, Option, Some}
 use Rattle.std.specs.List.{find, list_any}
 use Rattle.morty_base.specs.declared.names.Exec.{Exec}
 use Rattle.morty_base.specs.declared.names.Version.{Version}
@@ -26,7 +25,7 @@ use Rattle.protocol.proofs.Grows.{decided_stays}
 use Rattle.protocol.proofs.Members.{IsIn-cases, at_cases}
 use Rattle.protocol.specs.Quorums.{Quorum}
 use Rattle.protocol.proofs.Quorums.{quorums_meet}
-use Rattle.protocol_steps.proofs.Known.{found}
+use Rattle.protocol_steps.proofs.Known.{mapped_some, found}
 use Rattle.protocol_steps.proofs.Votes.{new_vote, verdict_commit, earlier_settled, final_conflict, conflicts_both_ways, no_conflict_alike}
 use Rattle.protocol_steps.proofs.Mail.{took_reach}
 use Rattle.protocol_steps.proofs.Reach.{Step, Reach, events_reach, GotAt, HeardAt}
@@ -38,17 +37,18 @@ use Rattle.safety.specs.Locks.{VotedCommit, Shut, AbandonLock}
 use Rattle.safety.proofs.Locks.{locks_clash, cast_found, sent_grows, voted_prepared}
 use Rattle.safety.specs.Locks.Shut.{Conflicting}
 use Rattle.safety.specs.Locks.AbandonLock.{All_shut}
-use Rattle.safety.proofs.Stays.{Calm, abandon_lock_stays, News, news, cast_sent}
+use Rattle.safety.proofs.Stays.{CommitGround, abandon_lock_stays, Origin, origin, cast_sent}
 use Rattle.safety.proofs.Evidence.{decisions_reach}
 use Rattle.safety.proofs.WardEvidence.{ward_reach, decided_sent}
 use Rattle.safety.proofs.Chosen.{Safe}
 use Rattle.safety.proofs.Safety.{proposals_step, abandoned_step, committed_step}
 use Rattle.msg.specs.declared.BaseEntry.{BaseEntry}
 use Rattle.protocol.specs.Base.{entries_of}
-use Rattle.safety.proofs.Stays.News.{Old, Of_replica, Of_client, Of_warden}
+use Rattle.safety.proofs.Stays.Origin.{Old, Of_replica, Of_client, Of_warden}
 use Rattle.protocol_steps.proofs.Dropped.{takes_above, cast_is, cast_above_none, dropped_taken, no_base}
 use Rattle.safety.proofs.Bases.{HasEntry, Written, entry_conflict, dropped_conflict, dropped_sent}
-use Rattle.safety.proofs.Cuts.{commit_sent, one_content, commit_prepared, apart_locks, CommitSent, each_or, is_commit, client_no_drop, ward_dropped, cut_now, base_holds, base_written}
+use Rattle.safety.proofs.Shapes.{commit_sent, client_no_drop, ward_dropped}
+use Rattle.safety.proofs.Cuts.{one_content, commit_prepared, apart_locks, CommitSent, each_or, is_commit, cut_now, base_holds, base_written}
 
 module _ (p : Plan) (pos : 0 < p.replicas) where
   -- the content of a commit is that of the cast
@@ -56,8 +56,8 @@ module _ (p : Plan) (pos : 0 < p.replicas) where
   same_content w q s r c i l j e = one_content p pos w q s c.exec l.content c.content
       (subst (λ (y : Exec). WasSent w (Prepare y l.content)) e (commit_prepared p pos w q s r l j)) (cast_sent p w q r c i)
 
-  pub calm : (w : World) → Reach p w → Safe p.replicas w → Calm w
-  calm w q s = record {
+  pub commit_ground : (w : World) → Reach p w → Safe p.replicas w → CommitGround w
+  commit_ground w q s = record {
     agree = λ y o u a b. apart_locks p pos w q s y (s.abandoned y o a) (u, b);
     content = λ r c i l j e. same_content w q s r c i l j e;
     bases = s.bases;
@@ -65,16 +65,16 @@ module _ (p : Plan) (pos : 0 < p.replicas) where
 
   -- two votes for Commit in conflict at one replica: one was decided Abandon there before the later vote, or the earlier one was dropped,
   -- and the later one is not in conflict with the base
-  pub data Parted (h : Handled) (c d : Cast) : Type 0 where
-    Gone : decided h c.exec ≡ Some Abandon → Parted h c d
-    Passed_by : (g : Handled) → ((m : Envelope) → IsIn m g → IsIn m h) → UpTo c.exec.ver (dropped g) → before no_version c.exec.ver ≡ true → before (dropped g) d.exec.ver ≡ true → list_any (conflicts_with_base d.exec.ver d.content) (base g) ≡ false → Parted h c d
+  pub data SetApart (h : Handled) (c d : Cast) : Type 0 where
+    Gone : decided h c.exec ≡ Some Abandon → SetApart h c d
+    Passed_by : (g : Handled) → ((m : Envelope) → IsIn m g → IsIn m h) → UpTo c.exec.ver (dropped g) → before no_version c.exec.ver ≡ true → before (dropped g) d.exec.ver ≡ true → list_any (conflicts_with_base d.exec.ver d.content) (base g) ≡ false → SetApart h c d
 
-  parted_more : (h : Handled) (m : Envelope) (c d : Cast) → Parted h c d → Parted (m ∷ h) c d
-  parted_more h m c d (Gone e) = Gone (decided_stays h m c.exec Abandon e)
-  parted_more h m c d (Passed_by g f u n a e) = Passed_by g (λ m i. inr (f m i)) u n a e
+  set_apart_more : (h : Handled) (m : Envelope) (c d : Cast) → SetApart h c d → SetApart (m ∷ h) c d
+  set_apart_more h m c d (Gone e) = Gone (decided_stays h m c.exec Abandon e)
+  set_apart_more h m c d (Passed_by g f u n a e) = Passed_by g (λ m i. inr (f m i)) u n a e
 
   abbrev pub IsTwo : Handled → Type 0
-  IsTwo h = (c d : Cast) → IsIn c (casts h) → IsIn d (casts h) → c.vote ≡ Commit → d.vote ≡ Commit → conflicts c.exec.ver c.content d.exec.ver d.content ≡ true → Parted h c d ⊎ Parted h d c
+  IsTwo h = (c d : Cast) → IsIn c (casts h) → IsIn d (casts h) → c.vote ≡ Commit → d.vote ≡ Commit → conflicts c.exec.ver c.content d.exec.ver d.content ≡ true → SetApart h c d ⊎ SetApart h d c
 
   true_false : true ≡ false → ⊥
   true_false e = cc
@@ -82,7 +82,7 @@ module _ (p : Plan) (pos : 0 < p.replicas) where
   two_cons : (w : World) (q : Reach p w) → Safe p.replicas w → (r : ℕ) (m : Envelope) → takes (w.replica r) m.body ≡ true → IsTwo (w.replica r) → IsTwo (m ∷ w.replica r)
   two_cons w q s r m tk t c d i j v u f = go (IsIn-cases c (new_cast (w.replica r) (casts (w.replica r)) m.body) (casts (w.replica r)) i) (IsIn-cases d (new_cast (w.replica r) (casts (w.replica r)) m.body) (casts (w.replica r)) j)
     where
-      older : (n o : Cast) → IsIn n (new_cast (w.replica r) (casts (w.replica r)) m.body) → IsIn o (casts (w.replica r)) → n.vote ≡ Commit → o.vote ≡ Commit → conflicts n.exec.ver n.content o.exec.ver o.content ≡ true → Parted (m ∷ w.replica r) o n
+      older : (n o : Cast) → IsIn n (new_cast (w.replica r) (casts (w.replica r)) m.body) → IsIn o (casts (w.replica r)) → n.vote ≡ Commit → o.vote ≡ Commit → conflicts n.exec.ver n.content o.exec.ver o.content ≡ true → SetApart (m ∷ w.replica r) o n
       older n o i j v u f = let g = cast_is (w.replica r) m.body n i in
           let e : verdict (w.replica r) (casts (w.replica r)) n.exec n.content ≡ Commit = sym g.1 ∙ v in
           elim (earlier_settled (w.replica r) n.exec n.content o (well_reach p w q r) (λ l k z. same_content w q s r o j l k z) j u f e) [
@@ -91,8 +91,8 @@ module _ (p : Plan) (pos : 0 < p.replicas) where
                 (subst (λ (b : Body). is_above (dropped (w.replica r)) (version_of b) ≡ true) g.0 (takes_above (w.replica r) m.body tk)) (verdict_commit (w.replica r) (casts (w.replica r)) n.exec n.content e).base
           ]
 
-      go : IsIn c (new_cast (w.replica r) (casts (w.replica r)) m.body) ⊎ IsIn c (casts (w.replica r)) → IsIn d (new_cast (w.replica r) (casts (w.replica r)) m.body) ⊎ IsIn d (casts (w.replica r)) → Parted (m ∷ w.replica r) c d ⊎ Parted (m ∷ w.replica r) d c
-      go (inr i) (inr j) = elim (t c d i j v u f) [ inl z ↦ inl (parted_more (w.replica r) m c d z) | inr z ↦ inr (parted_more (w.replica r) m d c z) ]
+      go : IsIn c (new_cast (w.replica r) (casts (w.replica r)) m.body) ⊎ IsIn c (casts (w.replica r)) → IsIn d (new_cast (w.replica r) (casts (w.replica r)) m.body) ⊎ IsIn d (casts (w.replica r)) → SetApart (m ∷ w.replica r) c d ⊎ SetApart (m ∷ w.replica r) d c
+      go (inr i) (inr j) = elim (t c d i j v u f) [ inl z ↦ inl (set_apart_more (w.replica r) m c d z) | inr z ↦ inr (set_apart_more (w.replica r) m d c z) ]
       go (inl i) (inr j) = inr (older c d i j v u f)
       go (inr i) (inl j) = inl (older d c j i u v (sym (conflicts_both_ways c.exec.ver d.exec.ver c.content d.content) ∙ f))
       go (inl i) (inl j) = let a = (cast_is (w.replica r) m.body c i).0 in let b = (cast_is (w.replica r) m.body d j).0 in let e : c.exec ≡ d.exec = cc in
@@ -114,18 +114,18 @@ module _ (p : Plan) (pos : 0 < p.replicas) where
       (at_cases (λ (h : Handled). IsTwo h) s.r (after_taking (w.replica s.r) s.m) w.replica r (λ e. two_taking w q z s.r s.m (t s.r)) (t r))
 
   -- of two votes for Commit in conflict at one replica, Abandon of one is locked
-  parted_lock : (w : World) (q : Reach p w) → Safe p.replicas w → (r : ℕ) (c d : Cast) → IsIn c (casts (w.replica r)) → conflicts d.exec.ver d.content c.exec.ver c.content ≡ true → Parted (w.replica r) c d → AbandonLock p.replicas w c.exec
-  parted_lock w q s r c d i f (Gone e) = let a = decided_sent p w q c.exec Abandon r e in s.abandoned c.exec a.0 a.1
-  parted_lock w q s r c d i f (Passed_by g sub u n a e) =
+  set_apart_lock : (w : World) (q : Reach p w) → Safe p.replicas w → (r : ℕ) (c d : Cast) → IsIn c (casts (w.replica r)) → conflicts d.exec.ver d.content c.exec.ver c.content ≡ true → SetApart (w.replica r) c d → AbandonLock p.replicas w c.exec
+  set_apart_lock w q s r c d i f (Gone e) = let a = decided_sent p w q c.exec Abandon r e in s.abandoned c.exec a.0 a.1
+  set_apart_lock w q s r c d i f (Passed_by g sub u n a e) =
       let mail : (m : Envelope) → IsIn m g → IsIn m w.mail = λ m j. ((took_reach p w q).took r m (sub m j)).0 in
       elim (s.cut (dropped g) (base g) (dropped_sent w g mail c.exec.ver n u) c.exec u) [
         | inr l ↦ l
         | inl k ↦ absurd (true_false (sym (dropped_conflict w s.bases g mail d.exec d.content a c.exec c.content k.0 k.1 (cast_sent p w q r c i) n u f) ∙ e))
       ]
 
-  two_locked : (w : World) (q : Reach p w) → Safe p.replicas w → (r : ℕ) (c d : Cast) → IsIn c (casts (w.replica r)) → IsIn d (casts (w.replica r)) → conflicts c.exec.ver c.content d.exec.ver d.content ≡ true → Parted (w.replica r) c d ⊎ Parted (w.replica r) d c → AbandonLock p.replicas w c.exec ⊎ AbandonLock p.replicas w d.exec
-  two_locked w q s r c d i j f (inl z) = inl (parted_lock w q s r c d i (conflicts_both_ways d.exec.ver c.exec.ver d.content c.content ∙ f) z)
-  two_locked w q s r c d i j f (inr z) = inr (parted_lock w q s r d c j f z)
+  two_locked : (w : World) (q : Reach p w) → Safe p.replicas w → (r : ℕ) (c d : Cast) → IsIn c (casts (w.replica r)) → IsIn d (casts (w.replica r)) → conflicts c.exec.ver c.content d.exec.ver d.content ≡ true → SetApart (w.replica r) c d ⊎ SetApart (w.replica r) d c → AbandonLock p.replicas w c.exec ⊎ AbandonLock p.replicas w d.exec
+  two_locked w q s r c d i j f (inl z) = inl (set_apart_lock w q s r c d i (conflicts_both_ways d.exec.ver c.exec.ver d.content c.content ∙ f) z)
+  two_locked w q s r c d i j f (inr z) = inr (set_apart_lock w q s r d c j f z)
 
   abbrev pub AllTwo : World → Type 0
   AllTwo w = (r : ℕ) → IsTwo (w.replica r)
@@ -197,13 +197,13 @@ module _ (p : Plan) (pos : 0 < p.replicas) where
   module _ (w w' : World) (q : Reach p w) (st : Step p w w') (s : Safe p.replicas w) where
     grown_cut : (x : Exec) → CommitSent w x ⊎ AbandonLock p.replicas w x → CommitSent w' x ⊎ AbandonLock p.replicas w' x
     grown_cut x (inl c) = inl (c.0, sent_grows p w w' st _ c.1)
-    grown_cut x (inr l) = inr (abandon_lock_stays p w w' q st (calm w q s) x l)
+    grown_cut x (inr l) = inr (abandon_lock_stays p w w' q st (commit_ground w q s) x l)
 
-    -- whatever Drop was sent, what is at or below its version was prepare_when before
+    -- whatever Drop was sent, what is at or below its version was settled before
     settled_before : (v : Version) (bs : List BaseEntry) → WasSent w' (Drops v bs) → (x : Exec) → UpTo x.ver v → CommitSent w x ⊎ AbandonLock p.replicas w x
-    settled_before v bs t x u = go (news p w w' q st _ t)
+    settled_before v bs t x u = go (origin p w w' q st _ t)
       where
-        go : News p w w' (Drops v bs) → CommitSent w x ⊎ AbandonLock p.replicas w x
+        go : Origin p w w' (Drops v bs) → CommitSent w x ⊎ AbandonLock p.replicas w x
         go (Old z) = s.cut v bs z x u
         go (Of_replica r f) = absurd f
         go (Of_client cs i) = absurd (client_no_drop (rules p cs.c) (GotAt w cs.c) (w.client cs.c) cs.state cs.sent cs.act v bs i)
@@ -214,9 +214,9 @@ module _ (p : Plan) (pos : 0 < p.replicas) where
     written_grown v d y = record { exec = y.exec; content = y.content; decision = (y.decision.0, sent_grows p w w' st _ y.decision.1); prepare = sent_grows p w w' st _ y.prepare; upto = y.upto; entry = y.entry }
 
     written_step : (v : Version) (bs : List BaseEntry) → WasSent w' (Drops v bs) → (d : BaseEntry) → IsIn d bs → Written w' v d
-    written_step v bs t d j = written_grown v d (go (news p w w' q st _ t))
+    written_step v bs t d j = written_grown v d (go (origin p w w' q st _ t))
       where
-        go : News p w w' (Drops v bs) → Written w v d
+        go : Origin p w w' (Drops v bs) → Written w v d
         go (Old z) = s.bases.written v bs z d j
         go (Of_replica r f) = absurd f
         go (Of_client cs i) = absurd (client_no_drop (rules p cs.c) (GotAt w cs.c) (w.client cs.c) cs.state cs.sent cs.act v bs i)
@@ -224,9 +224,9 @@ module _ (p : Plan) (pos : 0 < p.replicas) where
             subst (λ (z : Version). Written w z d) (sym o.version) (base_written p pos w q s ws.k o.trunc o.there o.many o.all d (subst (λ (z : List BaseEntry). IsIn d z) o.bases j))
 
     holds_before : (v : Version) (bs : List BaseEntry) → WasSent w' (Drops v bs) → (y : Exec) (l : Content) → CommitSent w y → WasSent w (Prepare y l) → UpTo y.ver v → (e : BaseEntry) → IsIn e (entries_of y 1 l.writes) → HasEntry bs e
-    holds_before v bs t y l c pr u e j = go (news p w w' q st _ t)
+    holds_before v bs t y l c pr u e j = go (origin p w w' q st _ t)
       where
-        go : News p w w' (Drops v bs) → HasEntry bs e
+        go : Origin p w w' (Drops v bs) → HasEntry bs e
         go (Old z) = s.bases.holds v bs z y l c.0 c.1 pr u e j
         go (Of_replica r f) = absurd f
         go (Of_client cs i) = absurd (client_no_drop (rules p cs.c) (GotAt w cs.c) (w.client cs.c) cs.state cs.sent cs.act v bs i)
@@ -235,7 +235,7 @@ module _ (p : Plan) (pos : 0 < p.replicas) where
 
     holds_step : (v : Version) (bs : List BaseEntry) → WasSent w' (Drops v bs) → (y : Exec) (l : Content) (o : Option Content) → WasSent w' (Decide y ToCommit o) → WasSent w' (Prepare y l) → UpTo y.ver v → (e : BaseEntry) → IsIn e (entries_of y 1 l.writes) → HasEntry bs e
     holds_step v bs t y l o d pr u e j = elim (settled_before v bs t y u) [
-      | inr a ↦ absurd (locks_clash p w' (Next w w' q st) (proposals_step p pos w w' q (calm w q s) st s) y (abandon_lock_stays p w w' q st (calm w q s) y a) (committed_step p pos w w' q (calm w q s) st s y o d).0)
+      | inr a ↦ absurd (locks_clash p w' (Next w w' q st) (proposals_step p pos w w' q (commit_ground w q s) st s) y (abandon_lock_stays p w w' q st (commit_ground w q s) y a) (committed_step p pos w w' q (commit_ground w q s) st s y o d).0)
       | inl c ↦ prepared c
     ]
       where
@@ -262,7 +262,7 @@ module _ (p : Plan) (pos : 0 < p.replicas) where
     },
     λ r c d i. absurd i,
   )
-  both_reach _ (Next w w' q st) = let b = both_reach w q in let s = b.0 in let c = calm w q s in (
+  both_reach _ (Next w w' q st) = let b = both_reach w q in let s = b.0 in let c = commit_ground w q s in (
     record {
       proposals = proposals_step p pos w w' q c st s;
       abandoned = abandoned_step p pos w w' q c st s;
@@ -279,23 +279,15 @@ module _ (p : Plan) (pos : 0 < p.replicas) where
 
   -- what a node decided was sent
   pub decided_by_sent : (w : World) → Reach p w → (n : NodeId) (x : Exec) (d : Choice) → decided_by w n x ≡ Some d → (o : Option Content) × WasSent w (Decide x d o)
-  decided_by_sent w q (Client c) x d e = let f = some_of (λ (y : Decision). y.choice) (find (λ (y : Decision). same_exec x y.exec) (w.client c).decisions) d e in
+  decided_by_sent w q (Client c) x d e = let f = mapped_some (λ (y : Decision). y.choice) (find (λ (y : Decision). same_exec x y.exec) (w.client c).decisions) d e in
       let i = found (λ (y : Decision). y.exec) x (w.client c).decisions f.0 f.1 in
       let s = (decisions_reach p pos w q c).sent f.0 i.0 in
       (s.0, subst (λ (y : Exec). WasSent w (Decide y d s.0)) i.1 (subst (λ (y : Choice). WasSent w (Decide f.0.exec y s.0)) f.2 s.1))
-    where
-      some_of : {A B : Type 0} (f : A → B) (o : Option A) (b : B) → option_map f o ≡ Some b → (a : A) × (o ≡ Some a) × (f a ≡ b)
-      some_of f None b e = cc
-      some_of f (Some a) b e = (a, refl, cc)
   decided_by_sent w q (Replica r) x d e = decided_sent p w q x d r e
-  decided_by_sent w q (Warden k) x d e = let f = some_of (λ (y : DecidedProposal). y.proposal.choice) (decision_on (w.warden k) x) d e in
+  decided_by_sent w q (Warden k) x d e = let f = mapped_some (λ (y : DecidedProposal). y.proposal.choice) (decision_on (w.warden k) x) d e in
       let i = found (λ (y : DecidedProposal). y.exec) x (w.warden k).decisions f.0 f.1 in
       let s = (ward_reach p pos w q k).decision f.0 i.0 in
       (f.0.proposal.content, subst (λ (y : Exec). WasSent w (Decide y d f.0.proposal.content)) i.1 (subst (λ (y : Choice). WasSent w (Decide f.0.exec y f.0.proposal.content)) f.2 s))
-    where
-      some_of : {A B : Type 0} (f : A → B) (o : Option A) (b : B) → option_map f o ≡ Some b → (a : A) × (o ≡ Some a) × (f a ≡ b)
-      some_of f None b e = cc
-      some_of f (Some a) b e = (a, refl, cc)
 
   agreed : (w : World) → Reach p w → (x : Exec) (a b : NodeId) → decided_by w a x ≡ Some Abandon → decided_by w b x ≢ Some ToCommit
   agreed w q x a b e f = let s = safe_reach w q in let d = decided_by_sent w q a x Abandon e in let c = decided_by_sent w q b x ToCommit f in

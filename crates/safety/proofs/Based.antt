@@ -24,7 +24,7 @@ use Rattle.protocol.specs.Base.{put_entry, put_entries, kept_entries, decided_en
 use Rattle.protocol.specs.World.{Plan, World, first_world, replay_from, rules, warden_rules}
 use Rattle.protocol.specs.Decided.{decided_by, UpTo, WasSent, Committed, IsRising, IsBase}
 use Rattle.safety.specs.Locks.{AbandonLock}
-use Rattle.safety.specs.Bases.{BaseOfDrop, FenceNames, DropSettles, MissesAt, TwoVotes}
+use Rattle.safety.specs.Bases.{FenceNames, DropSettles, MissesAt, TwoVotes}
 use Rattle.protocol.proofs.Orders.{same_exec_refl, key_is, key_itself, key_trans, key_order}
 use Rattle.protocol.proofs.Members.{IsIn-right}
 use Rattle.protocol_steps.proofs.Known.{Finds, finds_cons, some_from, IsWell}
@@ -37,14 +37,16 @@ use Rattle.protocol_steps.proofs.Facts.{RFact, facts_reach, well_reach, taking_r
 use Rattle.protocol_steps.proofs.ClientFacts.{CFact, client_facts_reach}
 use Rattle.protocol_steps.proofs.WardFacts.{WFact, ward_facts_reach}
 use Rattle.safety.proofs.Bases.{both, or_left_in, entry_write, dropped_sent}
-use Rattle.safety.proofs.Stays.{News, news, abandon_lock_stays}
+use Rattle.safety.proofs.Stays.{Origin, origin, abandon_lock_stays}
 use Rattle.safety.proofs.Locks.{sent_grows, cast_prepare}
 use Rattle.safety.proofs.Contents.{contents_reach}
-use Rattle.safety.proofs.Stays.News.{Old, Of_replica, Of_client, Of_warden}
-use Rattle.safety.proofs.Cuts.{CommitSent, apart_locks, one_content, commit_decided, client_no_drop, ward_dropped, named_fact, put_of}
-use Rattle.safety.proofs.Agreed.{calm, safe_reach, decided_by_sent}
+use Rattle.safety.proofs.Stays.Origin.{Old, Of_replica, Of_client, Of_warden}
+use Rattle.safety.proofs.Cuts.{CommitSent, apart_locks, one_content, named_fact}
+use Rattle.safety.proofs.Shapes.{commit_decided, client_no_drop, ward_dropped}
+use Rattle.safety.proofs.Entries.{put_of}
+use Rattle.safety.proofs.Agreed.{commit_ground, safe_reach, decided_by_sent}
 
-find_in : {A : Type 0} (name : A → Exec) (x : Exec) (xs : List A) (a : A) → IsIn a xs → name a ≡ x → Finds (find (λ y. same_exec x (name y)) xs)
+pub find_in : {A : Type 0} (name : A → Exec) (x : Exec) (xs : List A) (a : A) → IsIn a xs → name a ≡ x → Finds (find (λ y. same_exec x (name y)) xs)
 find_in name x [] a i e = absurd i
 find_in {A = A} name x (y ∷ ys) a (inl z) e = go (same_exec x (name y)) (subst (λ v. same_exec x v ≡ true) (sym e ∙ ap name z) (same_exec_refl x))
   where
@@ -52,10 +54,6 @@ find_in {A = A} name x (y ∷ ys) a (inl z) e = go (same_exec x (name y)) (subst
     go true q = tt
     go false q = cc
 find_in name x (y ∷ ys) a (inr i) e = finds_cons (same_exec x (name y)) y _ (find_in name x ys a i e)
-
-choice_cases : (c : Choice) → (c ≡ Abandon) ⊎ (c ≡ ToCommit)
-choice_cases Abandon = inl refl
-choice_cases ToCommit = inr refl
 
 module _ (p : Plan) (pos : 0 < p.replicas) (w : World) (q : Reach p w) where
   pub committed_sent : (x : Exec) → Committed w x → CommitSent w x
@@ -91,7 +89,7 @@ put_rising b (c ∷ cs) r = go (put_rising b cs r.1) (same_key b.key c.key) refl
     go ih false e u true f = (λ d i. elim i [ inl z ↦ subst (λ (y : BaseEntry). key_before b.key y.key ≡ true) (sym z) f | inr j ↦ key_trans b.key c.key d.key f (r.0 d j) ], r)
     go ih false e u false f = (λ d i. elim (put_of b cs d i) [ inl z ↦ subst (λ (y : BaseEntry). key_before c.key y.key ≡ true) (sym z) (key_order b.key c.key e f) | inr j ↦ r.0 d j ], ih)
 
-puts_rising : (cs bs : List BaseEntry) → IsRising cs → IsRising (put_entries cs bs)
+pub puts_rising : (cs bs : List BaseEntry) → IsRising cs → IsRising (put_entries cs bs)
 puts_rising cs [] r = r
 puts_rising cs (b ∷ bs) r = puts_rising (put_entry b cs) bs (put_rising b cs r)
 
@@ -104,9 +102,9 @@ base_rising w v t k = puts_rising [] (flat_map (λ (a : FencedAnswer). a.base) t
 -- the base of a Drop is rising
 pub drop_rising : (p : Plan) (w : World) → Reach p w → (v : Version) (bs : List BaseEntry) → WasSent w (Drops v bs) → IsRising bs
 drop_rising p _ Begins v bs t = absurd t.there
-drop_rising p _ (Next w w' q st) v bs t = go (λ z. drop_rising p w q v bs z) (news p w w' q st _ t)
+drop_rising p _ (Next w w' q st) v bs t = go (λ z. drop_rising p w q v bs z) (origin p w w' q st _ t)
   where
-    go : (WasSent w (Drops v bs) → IsRising bs) → News p w w' (Drops v bs) → IsRising bs
+    go : (WasSent w (Drops v bs) → IsRising bs) → Origin p w w' (Drops v bs) → IsRising bs
     go ih (Old z) = ih z
     go ih (Of_replica r f) = absurd f
     go ih (Of_client cs i) = absurd (client_no_drop (rules p cs.c) (GotAt w cs.c) (w.client cs.c) cs.state cs.sent cs.act v bs i)
@@ -127,25 +125,23 @@ module _ (p : Plan) (pos : 0 < p.replicas) (w : World) (q : Reach p w) where
 -- what is locked stays locked
 lock_later : (p : Plan) → 0 < p.replicas → (o w : World) → Reach p o → From p o w → (x : Exec) → AbandonLock p.replicas o x → AbandonLock p.replicas w x
 lock_later p pos o _ r Begins x l = l
-lock_later p pos o _ r (Next w w' f s) x l = let q = from_trans p first_world o w r f in abandon_lock_stays p w w' q s (calm p pos w q (safe_reach p pos w q)) x (lock_later p pos o w r f x l)
+lock_later p pos o _ r (Next w w' f s) x l = let q = from_trans p first_world o w r f in abandon_lock_stays p w w' q s (commit_ground p pos w q (safe_reach p pos w q)) x (lock_later p pos o w r f x l)
 
 sent_later : (p : Plan) (o w : World) → From p o w → (b : Body) → WasSent o b → WasSent w b
 sent_later p o _ Begins b t = t
 sent_later p o _ (Next w w' f s) b t = sent_grows p w w' s b (sent_later p o w f b t)
 
-pub base_of_drop : BaseOfDrop
-base_of_drop p pos events more v bs t =
-    let w = replay_from p first_world events in
-    let q = events_reach p first_world first_world Begins events in
-    let f = events_reach p w w Begins more in
-    let q' = events_reach p first_world w q more in (
-      drop_base p pos w q v bs t,
-      drop_base p pos (replay_from p w more) q' v bs (sent_later p w (replay_from p w more) f _ t),
-      λ x u c. elim (drop_settles_now p pos w q v bs t x u) [
-        | inl d ↦ d
-        | inr l ↦ absurd (apart_locks p pos (replay_from p w more) q' (safe_reach p pos (replay_from p w more) q') x (lock_later p pos w (replay_from p w more) q f x l) (committed_sent p pos (replay_from p w more) q' x c))
-      ],
-    )
+-- the base of a Drop stays the base, and nothing at or below its version is committed later
+pub drop_kept : (p : Plan) (pos : 0 < p.replicas) (w w' : World) (q : Reach p w) (f : From p w w') (q' : Reach p w') (v : Version) (bs : List BaseEntry) → WasSent w (Drops v bs) →
+    IsBase w v bs × IsBase w' v bs × ((x : Exec) → UpTo x.ver v → Committed w' x → Committed w x)
+drop_kept p pos w w' q f q' v bs t = (
+  drop_base p pos w q v bs t,
+  drop_base p pos w' q' v bs (sent_later p w w' f _ t),
+  λ x u c. elim (drop_settles_now p pos w q v bs t x u) [
+    | inl d ↦ d
+    | inr l ↦ absurd (apart_locks p pos w' q' (safe_reach p pos w' q') x (lock_later p pos w w' q f x l) (committed_sent p pos w' q' x c))
+  ],
+)
 
 pub drop_settles : DropSettles
 drop_settles p pos events v bs x t u = drop_settles_now p pos (replay_from p first_world events) (events_reach p first_world first_world Begins events) v bs t x u

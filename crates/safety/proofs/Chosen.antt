@@ -1,5 +1,7 @@
+use Rattle.protocol.proofs.Quorums.{named_quorum}
+use Rattle.protocol_steps.proofs.Known.{choice_cases}
 use Rattle.std.proofs.Common.{◌≡◌, ℕ, ◌<◌, ◌≤◌, ◌⊎◌, ◌≢◌, inl, inr, refl, ap, sym, ◌∙◌, subst, true, false, Bool, cond, List, [], ◌∷◌, Option, Some, None, length, arith}
-use Rattle.std.specs.Prelude.{suc, map, ◌&&◌, nat_lt}
+use Rattle.std.specs.Prelude.{map, ◌&&◌, nat_lt}
 use Rattle.std.specs.List.{list_all}
 use Rattle.std.proofs.lemmas.Bool.Decides.{nat_tests}
 use Rattle.morty_base.specs.declared.names.Version.{Version}
@@ -144,23 +146,8 @@ module _ (p : Plan) (w : World) (q : Reach p w) (s : Safe p.replicas w) (x : Exe
   abbrev Told_by : ℕ → Type 0
   Told_by r = (t : ToldAnswer) × IsIn t ts × (t.replica ≡ r)
 
-  in_map : (r : ℕ) (us : List ToldAnswer) → IsIn r (map (λ (t : ToldAnswer). t.replica) us) → (t : ToldAnswer) × IsIn t us × (t.replica ≡ r)
-  in_map r [] i = absurd i
-  in_map r (u ∷ us) (inl e) = (u, inl refl, sym e)
-  in_map r (u ∷ us) (inr i) = let k = in_map r us i in (k.0, inr k.1, k.2)
-
-  length_map : (us : List ToldAnswer) → length (map (λ (t : ToldAnswer). t.replica) us) ≡ length us
-  length_map [] = refl
-  length_map (u ∷ us) = ap suc (length_map us)
-
   tellers : Quorum p.replicas Told_by
-  tellers = record {
-    members = map (λ (t : ToldAnswer). t.replica) ts;
-    distinct = distinct;
-    ranged = λ r i. let k = in_map r ts i in subst (λ z. (0 < z) × (z ≤ p.replicas)) k.2 (facts k.0 k.1).0;
-    each = λ r i. in_map r ts i;
-    many = rw length_map many;
-  }
+  tellers = named_quorum (λ (t : ToldAnswer). t.replica) p.replicas ts distinct (λ t i. (facts t i).0) many
 
   first_told : (t : ToldAnswer) × IsIn t ts
   first_told = let m = quorums_meet p.replicas _ _ tellers tellers in (m.1.0, m.1.1)
@@ -209,10 +196,6 @@ module _ (p : Plan) (w : World) (q : Reach p w) (s : Safe p.replicas w) (x : Exe
       go (inl g) = let k = one_of _ a in let z = accepted_sent p w q x v0 d k.0 k.1 in s.proposals.below x v0 d z.0 z.1 u g
       go (inr (inl g)) = let k = one_of _ a in let z = accepted_sent p w q x v0 d k.0 k.1 in teller_closed u d l (λ c r t h. let y = accepted_sent p w q x u c r h in same_view u v0 c d y.0 z.0 y.1 z.1 g)
       go (inr (inr g)) = teller_closed u d l (λ c r t h. let y = accepted_sent p w q x u c r h in sym (carried p w s.proposals x u v0 c d y.0 a y.1 g))
-
-  choice_cases : (c : Choice) → (c ≡ Abandon) ⊎ (c ≡ ToCommit)
-  choice_cases Abandon = inl refl
-  choice_cases ToCommit = inr refl
 
   decided_below : (u : ℕ) (d : Choice) (o : Option Content) → u < v → WasSent w (Decide x d o) → Closed p.replicas w x u d
   decided_below u ToCommit o l t = go (s.committed x o t).0

@@ -29,12 +29,13 @@ use Rattle.protocol_steps.proofs.Mail.{took_reach, taking_cases}
 use Rattle.protocol_steps.proofs.Facts.{RFact}
 use Rattle.protocol_steps.proofs.WardFacts.{WFact, round_found}
 use Rattle.safety.proofs.Locks.{sent_grows}
-use Rattle.safety.proofs.Stays.{News, news}
+use Rattle.safety.proofs.Stays.{Origin, origin}
 use Rattle.protocol_steps.proofs.Provenance.{parcel_body}
-use Rattle.safety.proofs.Stays.News.{Old, Of_replica, Of_client, Of_warden}
+use Rattle.safety.proofs.Stays.Origin.{Old, Of_replica, Of_client, Of_warden}
 use Rattle.safety.proofs.Evidence.{evident_reach}
 use Rattle.safety.proofs.WardEvidence.{ward_reach}
-use Rattle.safety.proofs.Safety.{quiet_not, in_single, in_none, ward_decided}
+use Rattle.safety.proofs.ClientSent.{quiet_not, in_single, in_none}
+use Rattle.safety.proofs.WardSent.{ward_decided}
 
 -- each content in the mail is that of a Prepare
 pub record Prepared_contents (w : World) : Type 0 where
@@ -144,9 +145,9 @@ module _ (p : Plan) (pos : 0 < p.replicas) (w w' : World) (q : Reach p w) (st : 
   replica_content r _ x k f h = absurd h
 
   contents_step : (b : Body) (x : Exec) (k : Content) → HasContent b x k → WasSent w' b → WasSent w' (Prepare x k)
-  contents_step b x k h t = go (news p w w' q st b t)
+  contents_step b x k h t = go (origin p w w' q st b t)
     where
-      go : News p w w' b → WasSent w' (Prepare x k)
+      go : Origin p w w' b → WasSent w' (Prepare x k)
       go (Old z) = grown x k (c.from b x k h z)
       go (Of_client cs i) = client_content cs b x k i h t
       go (Of_warden ws a i z f) = warden_content ws a b x k i z f h

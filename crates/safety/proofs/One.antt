@@ -17,6 +17,7 @@ use Rattle.protocol.specs.Client.Phase.{Between, Running, Prepared}
 use Rattle.protocol.specs.Warden.{Round, Proposal}
 use Rattle.protocol.specs.Recovery.{round_of}
 use Rattle.protocol.specs.World.{Plan, World, rules, to_all}
+use Rattle.protocol_steps.proofs.Phases.{running_under_way}
 use Rattle.protocol_steps.proofs.Acts.{Act, IsQuiet, AllQuiet, IsRunning, IsUnderWay}
 use Rattle.protocol_steps.specs.Executions.{IsEarlier}
 use Rattle.protocol_steps.proofs.Acts.Act.{Quiet, Advances, Prepares, Counts, Proposes, Accepts, Decides, Gives_up, Learns}
@@ -150,6 +151,11 @@ running_prepared k Between r h = h
 running_prepared k (Running a b) r h = h
 running_prepared k (Prepared l v o a) r h = r
 
+pub open_under : (h : Phase) → IsOpen h → IsUnderWay h
+open_under Between h = absurd h
+open_under (Running a b) h = absurd h
+open_under (Prepared k v o a) h = tt
+
 pub open_between : (p : Phase) → IsOpen p → p ≡ Between → ⊥
 open_between Between r e = r
 open_between (Running a b) r e = r
@@ -229,20 +235,10 @@ client_one p w w' q s t = record {
     mine : (x : Exec) → x ≡ (w.client s.c).exec → IsUnderWay (w.client s.c).phase → x.ver.client ≡ s.c
     mine x e u = rw e ((rec_reach p w q s.c).own u)
 
-    running_under : (h : Phase) → IsRunning h → IsUnderWay h
-    running_under Between h = absurd h
-    running_under (Running a b) h = tt
-    running_under (Prepared k v o a) h = absurd h
-
-    open_under : (h : Phase) → IsOpen h → IsUnderWay h
-    open_under Between h = absurd h
-    open_under (Running a b) h = absurd h
-    open_under (Prepared k v o a) h = tt
-
     clash : (f : Envelope) (x : Exec) (k l : Content) → IsIn (Prepare x k) s.sent → IsIn f w.mail → f.body ≡ Prepare x l → ⊥
     clash f x k l u v b = let n = is_prepare x k u in
         let g = prepare_from p w q f x l v b in
-        not_at (HasPrepared l) x (w.client s.c) n.0 (running_between _ n.1) (running_prepared l _ n.1) (subst (λ z. At (HasPrepared l) x (w.client z)) (mine x n.0 (running_under _ n.1)) g.1)
+        not_at (HasPrepared l) x (w.client s.c) n.0 (running_between _ n.1) (running_prepared l _ n.1) (subst (λ z. At (HasPrepared l) x (w.client z)) (mine x n.0 (running_under_way _ n.1)) g.1)
 
     clash_final : (f : Envelope) (x : Exec) (d c : Choice) (o u : Option Content) → IsIn (Finalize x 0 d o) s.sent → IsIn f w.mail → f.body ≡ Finalize x 0 c u → ⊥
     clash_final f x d c o u i v b = let n = is_final x d o i in go n (final_from p w q f x 0 c u v b)

@@ -1,5 +1,5 @@
-use Rattle.std.proofs.Common.{◌≡◌, ℕ, ◌<◌, ◌≤◌, ◌+◌, ◌*◌, ◌⊎◌, ◌≢◌, inl, inr, refl, ap, sym, ◌∙◌, subst, true, false, Bool, cond, List, ◌∷◌, ◌++◌, Option, Some, arith}
-use Rattle.std.specs.Prelude.{option_map, ◌==◌}
+use Rattle.std.proofs.Common.{◌≡◌, ℕ, ◌<◌, ◌≤◌, ◌+◌, ◌*◌, ◌≢◌, inl, inr, refl, sym, ◌∙◌, subst, true, false, Bool, cond, List, ◌∷◌, Option, Some, None, arith}
+use Rattle.std.specs.Prelude.{◌==◌}
 use Rattle.std.specs.Option.{is_none}
 use Rattle.morty_base.specs.declared.names.Exec.{Exec}
 use Rattle.morty_base.specs.declared.names.NodeId.TheVariants.{Client, Warden}
@@ -10,21 +10,19 @@ use Rattle.msg.specs.declared.Vote.TheVariants.{Commit}
 use Rattle.msg.specs.declared.Choice.{Choice}
 use Rattle.msg.specs.declared.Choice.TheVariants.{Abandon, Commit as ToCommit}
 use Rattle.msg.specs.declared.Body.TheVariants.{Prepare, Finalize, Decide}
-use Rattle.morty_base.specs.Names.{same_exec}
-use Rattle.protocol.specs.Lists.{IsIn, one_when}
+use Rattle.protocol.specs.Lists.{IsIn}
 use Rattle.protocol.specs.Replica.{Handled, takes, after_taking, promised, Acceptance, acceptances, new_acceptance, decided, commits, dropped, fence, fenced_by, is_above, version_of}
 use Rattle.protocol.specs.Votes.{casts, cast_on, new_cast, vote, Cast, may_vote, verdict, conflicts}
-use Rattle.protocol.specs.Client.{ClientState, Phase}
-use Rattle.protocol.specs.Client.Phase.{Between, Running, Prepared}
+use Rattle.protocol.specs.Client.{ClientState}
+use Rattle.protocol.specs.Client.Phase.{Between}
 use Rattle.protocol.specs.Warden.{Parcel}
 use Rattle.protocol.specs.World.{Plan, World, rules}
 use Rattle.protocol.proofs.Logic.{and_right, some_not_none}
-use Rattle.protocol.proofs.Orders.{same_exec_tells}
 use Rattle.protocol.proofs.Grows.{decided_stays, promised_grows}
 use Rattle.protocol.proofs.Members.{IsIn-right, IsIn-cases, at_cases}
-use Rattle.protocol_steps.proofs.Accepts.{vote_frozen, new_acceptance_is}
+use Rattle.protocol_steps.proofs.Accepts.{vote_stands, vote_frozen, new_acceptance_is}
 use Rattle.protocol_steps.proofs.Spoken.{spoken}
-use Rattle.protocol_steps.proofs.Acts.{IsRunning, IsUnderWay}
+use Rattle.protocol_steps.proofs.Phases.{running_under_way}
 use Rattle.protocol_steps.specs.Executions.{IsEarlier, Over}
 use Rattle.protocol_steps.proofs.Reach.{Step, Reach, ClientActs, WardenActs, GotAt}
 use Rattle.protocol_steps.proofs.Reach.Step.{Stands, Client_acts, Replica_acts, Warden_acts}
@@ -38,9 +36,9 @@ use Rattle.protocol.specs.Decided.{UpTo, WasSent}
 use Rattle.protocol_steps.proofs.Dropped.{up_to_trans, later_left, true_false, takes_above, cast_above_none}
 use Rattle.safety.proofs.Bases.{Bases, dropped_conflict}
 use Rattle.msg.specs.declared.Kept.{Kept}
-use Rattle.protocol_steps.proofs.ClientFacts.{act_over, rec_reach}
+use Rattle.protocol_steps.proofs.ClientFacts.{act_over, rec_reach, said_stays}
 use Rattle.protocol_steps.proofs.WardFacts.{WFact, ward_facts_reach}
-use Rattle.safety.proofs.One.{sent_prepare, sent_finalize, one_reach, IsOpen, running_between, open_between, earlier_itself, warden_view}
+use Rattle.safety.proofs.One.{open_under, sent_prepare, sent_finalize, one_reach, running_between, open_between, earlier_itself, warden_view}
 use Rattle.safety.proofs.Locks.{sent_grows, Closed, replica_grows, voted_grows, accepted_grows, quorum_map, cast_prepare}
 use Rattle.safety.specs.Locks.{Shut, AbandonLock, CommitLock}
 use Rattle.safety.specs.Locks.Shut.{Voted_other, Has_promised, Has_decided, Fenced_out, Unsent, Conflicting}
@@ -48,26 +46,34 @@ use Rattle.safety.specs.Locks.AbandonLock.{Accepted_abandon, All_shut}
 use Rattle.safety.specs.Locks.CommitLock.{Accepted_commit, Fast}
 
 -- a body in the mail after a step is old, or was sent in it
-pub data News (p : Plan) (w w' : World) (b : Body) : Type 0 where
-  Old : WasSent w b → News p w w' b
-  Of_replica : (r : ℕ) → RFact r (w'.replica r) b → News p w w' b
-  Of_client : (s : ClientActs p w w') → IsIn b s.sent → News p w w' b
-  Of_warden : (s : WardenActs p w w') (a : Parcel) → IsIn a s.sent → b ≡ parcel_body a → WFact p.wardens s.k (w'.warden s.k) b → News p w w' b
+pub data Origin (p : Plan) (w w' : World) (b : Body) : Type 0 where
+  Old : WasSent w b → Origin p w w' b
+  Of_replica : (r : ℕ) → RFact r (w'.replica r) b → Origin p w w' b
+  Of_client : (s : ClientActs p w w') → IsIn b s.sent → Origin p w w' b
+  Of_warden : (s : WardenActs p w w') (a : Parcel) → IsIn a s.sent → b ≡ parcel_body a → WFact p.wardens s.k (w'.warden s.k) b → Origin p w w' b
 
-pub news : (p : Plan) (w w' : World) → Reach p w → Step p w w' → (b : Body) → WasSent w' b → News p w w' b
-news p w w' q (Stands s) b t = Old (record { envelope = t.envelope; there = rw s.mail at t.there; body = t.body })
-news p w w' q (Client_acts s) b t = elim (IsIn-cases t.envelope w.mail _ (rw s.mail at t.there)) [
+pub origin : (p : Plan) (w w' : World) → Reach p w → Step p w w' → (b : Body) → WasSent w' b → Origin p w w' b
+origin p w w' q (Stands s) b t = Old (record { envelope = t.envelope; there = rw s.mail at t.there; body = t.body })
+origin p w w' q (Client_acts s) b t = elim (IsIn-cases t.envelope w.mail _ (rw s.mail at t.there)) [
   | inl i ↦ Old (record { envelope = t.envelope; there = i; body = t.body })
   | inr i ↦ Of_client s (subst (λ z. IsIn z s.sent) t.body (from_to_all p.replicas (Client s.c) s.sent t.envelope i).1)
 ]
-news p w w' q (Replica_acts s) b t = elim (IsIn-cases t.envelope w.mail _ (rw s.mail at t.there)) [
+origin p w w' q (Replica_acts s) b t = elim (IsIn-cases t.envelope w.mail _ (rw s.mail at t.there)) [
   | inl i ↦ Old (record { envelope = t.envelope; there = i; body = t.body })
   | inr i ↦ Of_replica s.r (subst (RFact s.r (w'.replica s.r)) t.body ((facts_reach p w' (Next w w' q (Replica_acts s))).said t.envelope s.r t.there (spoken p.firsts s.r (w.replica s.r) s.m t.envelope i).0))
 ]
-news p w w' q (Warden_acts s) b t = elim (IsIn-cases t.envelope w.mail _ (rw s.mail at t.there)) [
+origin p w w' q (Warden_acts s) b t = elim (IsIn-cases t.envelope w.mail _ (rw s.mail at t.there)) [
   | inl i ↦ Old (record { envelope = t.envelope; there = i; body = t.body })
   | inr i ↦ let k = from_parcels p.replicas (Warden s.k) s.sent t.envelope i in Of_warden s k.1 k.2 (sym t.body ∙ k.3) (subst (WFact p.wardens s.k (w'.warden s.k)) t.body ((ward_facts_reach p w' (Next w w' q (Warden_acts s))).said t.envelope s.k t.there k.0))
 ]
+
+-- what a client decided stays
+pub decision_grows : (p : Plan) (w w' : World) → Step p w w' → (c : ℕ) (x : Exec) (d : Choice) → IsIn (record { exec = x; choice = d }) (w.client c).decisions → IsIn (record { exec = x; choice = d }) (w'.client c).decisions
+decision_grows p w w' (Stands s) c x d i = rw s.client i
+decision_grows p w w' (Replica_acts s) c x d i = rw s.client i
+decision_grows p w w' (Warden_acts s) c x d i = rw s.client i
+decision_grows p w w' (Client_acts s) c x d i = rw s.client (at_cases (λ (z : ClientState). IsIn (record { exec = x; choice = d }) z.decisions) s.c s.state w.client c
+    (λ e. said_stays (rules p s.c) (GotAt w s.c) (w.client s.c) s.state s.sent s.act (Decide x d None) (subst (λ (j : ℕ). IsIn (record { exec = x; choice = d }) (w.client j).decisions) e i)) i)
 
 -- what is over stays over
 pub over_grows : (p : Plan) (w w' : World) → Step p w w' → (x : Exec) (c : ℕ) → Over x (w.client c) → Over x (w'.client c)
@@ -81,32 +87,22 @@ not_over : (x : Exec) (s : ClientState) → x ≡ s.exec → (s.phase ≡ Betwee
 not_over x s e b (inl h) = earlier_itself s.exec (subst (λ z. IsEarlier z s.exec) e h)
 not_over x s e b (inr h) = b h.1
 
-pub running_under : (h : Phase) → IsRunning h → IsUnderWay h
-running_under Between h = absurd h
-running_under (Running a b) h = tt
-running_under (Prepared k v o a) h = absurd h
-
-open_under : (h : Phase) → IsOpen h → IsUnderWay h
-open_under Between h = absurd h
-open_under (Running a b) h = absurd h
-open_under (Prepared k v o a) h = tt
-
 -- of what is over nothing is prepared any more, and nothing proposed by the client
 pub no_prepare : (p : Plan) (w w' : World) → Reach p w → Step p w w' → (x : Exec) → Over x (w.client x.ver.client) → (k : Content) → WasSent w' (Prepare x k) → WasSent w (Prepare x k)
-no_prepare p w w' q s x o k t = go (news p w w' q s (Prepare x k) t)
+no_prepare p w w' q s x o k t = go (origin p w w' q s (Prepare x k) t)
   where
-    go : News p w w' (Prepare x k) → WasSent w (Prepare x k)
+    go : Origin p w w' (Prepare x k) → WasSent w (Prepare x k)
     go (Old t) = t
     go (Of_replica r f) = absurd f
     go (Of_warden s a i e f) = absurd f
     go (Of_client s i) = let n = sent_prepare (rules p s.c) (GotAt w s.c) (w.client s.c) s.state s.sent s.act x k i in
-        let mine : x.ver.client ≡ s.c = rw n.0 ((rec_reach p w q s.c).own (running_under _ n.1)) in
+        let mine : x.ver.client ≡ s.c = rw n.0 ((rec_reach p w q s.c).own (running_under_way _ n.1)) in
         absurd (not_over x (w.client s.c) n.0 (running_between _ n.1) (subst (λ z. Over x (w.client z)) mine o))
 
 pub no_finalize : (p : Plan) (w w' : World) → Reach p w → Step p w w' → (x : Exec) → Over x (w.client x.ver.client) → (d : Choice) (u : Option Content) → WasSent w' (Finalize x 0 d u) → WasSent w (Finalize x 0 d u)
-no_finalize p w w' q s x o d u t = go (news p w w' q s (Finalize x 0 d u) t)
+no_finalize p w w' q s x o d u t = go (origin p w w' q s (Finalize x 0 d u) t)
   where
-    go : News p w w' (Finalize x 0 d u) → WasSent w (Finalize x 0 d u)
+    go : Origin p w w' (Finalize x 0 d u) → WasSent w (Finalize x 0 d u)
     go (Old t) = t
     go (Of_replica r f) = absurd f
     go (Of_warden a b i e f) = let v = warden_view p w' (Next w w' q s) a.k x 0 f.1.0 f.1.1 in let z : 0 ≡ a.k + v.0 * p.wardens = v.1 in let l = f.0.0 in absurd (omega (arith, z, l))
@@ -129,23 +125,10 @@ taking_cases_vote h m x n c = go (takes h m.body) refl
 
 -- with a decision, nothing is voted any more
 vote_frozen_decided : (h : Handled) (m : Envelope) (x : Exec) (d : Choice) → decided h x ≡ Some d → vote (m ∷ h) x ≡ vote h x
-vote_frozen_decided h m x d p = ap (λ (o : Option Cast). option_map (λ (y : Cast). y.vote) o) (go m.body)
-  where
-    same2 : (z : Exec) (new : Cast) (t : Bool) → may_vote h (casts h) z ≡ true → ((t ≡ true) × (x ≡ z)) ⊎ ((t ≡ false) × (x ≢ z)) → cond t (Some new) (cast_on x (casts h)) ≡ cast_on x (casts h)
-    same2 z new true q (inl e) = absurd (some_not_none (decided h z) d (subst (λ y. decided h y ≡ Some d) e.1 p) (may_vote_undecided h (casts h) z q))
-    same2 z new true q (inr e) = cc
-    same2 z new false q e = refl
-
-    same : (z : Exec) (c : Content) (t : Bool) → may_vote h (casts h) z ≡ t → cast_on x (one_when t (record { exec = z; content = c; vote = verdict h (casts h) z c }) ++ casts h) ≡ cast_on x (casts h)
-    same z c true q = same2 z _ (same_exec x z) q (same_exec_tells x z)
-    same z c false q = refl
-
-    go : (b : Body) → cast_on x (new_cast h (casts h) b ++ casts h) ≡ cast_on x (casts h)
-    go (Prepare z c) = same z c (may_vote h (casts h) z) refl
-    go _ = refl
+vote_frozen_decided h m x d p = vote_stands h m x (λ e. some_not_none (decided h x) d p (may_vote_undecided h (casts h) x e))
 
 -- what the clause on conflicts needs of a world
-pub record Calm (w : World) : Type 0 where
+pub record CommitGround (w : World) : Type 0 where
   pub agree : (y : Exec) (o u : Option Content) → WasSent w (Decide y Abandon o) → WasSent w (Decide y ToCommit u) → ⊥
   pub content : (r : ℕ) (c : Cast) → IsIn c (casts (w.replica r)) → (l : Kept) → IsIn l (commits (w.replica r)) → l.exec ≡ c.exec → l.content ≡ c.content
   pub bases : Bases w
@@ -155,7 +138,7 @@ pub cast_sent : (p : Plan) (w : World) → Reach p w → (r : ℕ) (c : Cast) �
 cast_sent p w q r c i = let m = cast_prepare (w.replica r) c i in record { envelope = m.0; there = ((took_reach p w q).took r m.0 m.1).0; body = m.2 }
 
 -- who voted Commit on something committed in conflict with x, and not on x, does not vote Commit on x
-not_voted : (p : Plan) (w w' : World) → Reach p w → Step p w w' → Calm w → (x : Exec) (r : ℕ) (k : Content) → WasSent w (Prepare x k) → (c : Cast) → IsIn c (casts (w.replica r)) → c.vote ≡ Commit → conflicts x.ver k c.exec.ver c.content ≡ true → (o : Option Content) → WasSent w (Decide c.exec ToCommit o)
+not_voted : (p : Plan) (w w' : World) → Reach p w → Step p w w' → CommitGround w → (x : Exec) (r : ℕ) (k : Content) → WasSent w (Prepare x k) → (c : Cast) → IsIn c (casts (w.replica r)) → c.vote ≡ Commit → conflicts x.ver k c.exec.ver c.content ≡ true → (o : Option Content) → WasSent w (Decide c.exec ToCommit o)
     → vote (w.replica r) x ≢ Some Commit → vote (w'.replica r) x ≢ Some Commit
 not_voted p w w' q (Stands s) a x r k t c i v f o d n = subst (λ (g : ℕ → Handled). vote (g r) x ≢ Some Commit) (sym s.replica) n
 not_voted p w w' q (Client_acts s) a x r k t c i v f o d n = subst (λ (g : ℕ → Handled). vote (g r) x ≢ Some Commit) (sym s.replica) n
@@ -187,7 +170,7 @@ fenced_vote h m x n u e = elim (new_vote h m x Commit e) [
 ]
 
 -- who is shut stays shut
-pub shut_stays : (p : Plan) (w w' : World) → Reach p w → Step p w w' → Calm w → (x : Exec) (r : ℕ) → Shut w x r → Shut w' x r
+pub shut_stays : (p : Plan) (w w' : World) → Reach p w → Step p w w' → CommitGround w → (x : Exec) (r : ℕ) → Shut w x r → Shut w' x r
 shut_stays p w w' q s a x r (Voted_other v n e) = Voted_other v n (voted_grows p w w' s x v r e)
 shut_stays p w w' q s a x r (Has_promised n l) =
     let k = replica_grows p w w' s (λ h. (vote h x ≢ Some Commit) × (0 < promised h x)) (λ h m f. (λ e. f.0 (sym (vote_frozen h m x f.1) ∙ e), (let g = promised_grows h m x in let l = f.1 in omega (arith, g, l)))) r (n, l) in Has_promised k.0 k.1
@@ -199,13 +182,15 @@ shut_stays p w w' q s a x r (Unsent n o) = Unsent (λ k t. n k (no_prepare p w w
 shut_stays p w w' q s a x r (Conflicting n k t c i v f o d) = Conflicting (not_voted p w w' q s a x r k t c i v f o d n) k (sent_grows p w w' s _ t) c
     (replica_grows p w w' s (λ h. IsIn c (casts h)) (λ h m j. IsIn-right c (new_cast h (casts h) m.body) (casts h) j) r i) v f o (sent_grows p w w' s _ d)
 
-pub abandon_lock_stays : (p : Plan) (w w' : World) → Reach p w → Step p w w' → Calm w → (x : Exec) → AbandonLock p.replicas w x → AbandonLock p.replicas w' x
+pub abandon_lock_stays : (p : Plan) (w w' : World) → Reach p w → Step p w w' → CommitGround w → (x : Exec) → AbandonLock p.replicas w x → AbandonLock p.replicas w' x
 abandon_lock_stays p w w' q s c x (Accepted_abandon v a) = Accepted_abandon v (quorum_map _ _ _ (λ r h. accepted_grows p w w' s x v Abandon r h) a)
 abandon_lock_stays p w w' q s c x (All_shut a) = All_shut (quorum_map _ _ _ (λ r h. shut_stays p w w' q s c x r h) a)
 
 pub commit_lock_stays : (p : Plan) (w w' : World) → Reach p w → Step p w w' → (x : Exec) → CommitLock p.replicas w x → CommitLock p.replicas w' x
 commit_lock_stays p w w' q s x (Accepted_commit v a) = Accepted_commit v (quorum_map _ _ _ (λ r h. accepted_grows p w w' s x v ToCommit r h) a)
-commit_lock_stays p w w' q s x (Fast all over none) = Fast (λ r a b. voted_grows p w w' s x Commit r (all r a b)) (over_grows p w w' s x x.ver.client over) (λ d o t. none d o (no_finalize p w w' q s x over d o t))
+commit_lock_stays p w w' q s x (Fast all decides none) =
+    Fast (λ r a b. voted_grows p w w' s x Commit r (all r a b)) (decision_grows p w w' s x.ver.client x ToCommit decides)
+    (λ d o t. none d o (no_finalize p w w' q s x ((rec_reach p w q x.ver.client).done (record { exec = x; choice = ToCommit }) decides).1 d o t))
 
 -- a view that is promised is past: nothing more is accepted in it
 closed_cons : (x : Exec) (u : ℕ) (d : Choice) (h : Handled) (m : Envelope) → (u < promised h x) × ((c : Choice) → (a : Acceptance) × IsIn a (acceptances h) × (a.exec ≡ x) × (a.view ≡ u) × (a.choice ≡ c) → c ≡ d) → (u < promised (m ∷ h) x) × ((c : Choice) → (a : Acceptance) × IsIn a (acceptances (m ∷ h)) × (a.exec ≡ x) × (a.view ≡ u) × (a.choice ≡ c) → c ≡ d)

@@ -11,11 +11,12 @@ use Rattle.protocol.specs.Lists.{IsIn}
 use Rattle.protocol.specs.Client.{Rules, ClientState, Decision, Attempt}
 use Rattle.protocol.specs.Client.Phase.{Between}
 use Rattle.protocol.specs.World.{Plan, World, first_world, replay_from, rules}
-use Rattle.protocol.specs.Decided.{WasSent, IsOf}
+use Rattle.protocol.specs.Decided.{WasSent, Committed, IsOf}
 use Rattle.protocol_steps.specs.Executions.{IsEarlier}
 use Rattle.safety.specs.Tries.{OneExecution, OneTry}
 use Rattle.protocol.proofs.Members.{at_cases, at_same}
 use Rattle.protocol.proofs.Quorums.{quorums_meet}
+use Rattle.protocol_steps.proofs.Phases.{running_under_way}
 use Rattle.protocol_steps.proofs.Acts.{Act, IsRunning, IsAborted, IsOn, TryStep}
 use Rattle.protocol_steps.proofs.Acts.TryStep.{Keeps, Next_exec, Next_try}
 use Rattle.protocol_steps.proofs.Acts.Act.{Quiet, Advances, Prepares, Counts, Proposes, Accepts, Decides, Gives_up, Learns}
@@ -25,10 +26,10 @@ use Rattle.protocol_steps.proofs.Reach.From.{Begins, Next}
 use Rattle.protocol_steps.proofs.ClientFacts.{At, HasPrepared, rec_reach}
 use Rattle.safety.proofs.One.{prepare_from, earlier_itself, not_at, running_between, running_prepared}
 use Rattle.safety.proofs.Locks.{voted_prepared}
-use Rattle.safety.proofs.Stays.{News, news, running_under}
-use Rattle.safety.proofs.Stays.News.{Old, Of_replica, Of_client, Of_warden}
+use Rattle.safety.proofs.Stays.{Origin, origin}
+use Rattle.safety.proofs.Stays.Origin.{Old, Of_replica, Of_client, Of_warden}
 use Rattle.safety.proofs.Evidence.{decisions_reach}
-use Rattle.safety.proofs.Safety.{quiet_not, in_single, in_none}
+use Rattle.safety.proofs.ClientSent.{quiet_not, in_single, in_none}
 use Rattle.safety.proofs.Cuts.{CommitSent, apart_locks}
 use Rattle.safety.proofs.Agreed.{safe_reach}
 use Rattle.safety.proofs.Based.{committed_sent}
@@ -57,7 +58,7 @@ step_rec s s' (Next_exec v b a d c run) t = record {
   begun = λ z i y. t.begun z (subst (λ l. IsIn z l) a i) (y ∙ v) ∙ sym b;
   bounded = λ z i. let y = t.bounded z (subst (λ l. IsIn z l) a i) in (subst (λ (x : Version). z.ver.ts ≤ x.ts) (sym v) y.0, subst (λ n. z.txn ≤ n) (sym b) y.1);
   aborted = λ z f. absurd (running_between s'.phase run z);
-  has = λ z. let h = t.has (elim c [ inl y ↦ inl (running_under s.phase y) | inr y ↦ inr y.0 ]) in (h.0, subst (λ l. IsIn h.0 l) (sym a) h.1, h.2 ∙ sym v);
+  has = λ z. let h = t.has (elim c [ inl y ↦ inl (running_under_way s.phase y) | inr y ↦ inr y.0 ]) in (h.0, subst (λ l. IsIn h.0 l) (sym a) h.1, h.2 ∙ sym v);
   falling = subst IsFalling (sym a) t.falling;
 }
 step_rec s s' (Next_try q l a d c run) t = record {
@@ -104,15 +105,15 @@ prepares_act r Got s s' sent (Learns j d0 k0 n got e d' f q) x k i = absurd (in_
 
 fresh : (p : Plan) (w w' : World) → Reach p w → Step p w w' → (x : Exec) (k : Content) → WasSent w' (Prepare x k)
     → WasSent w (Prepare x k) ⊎ ((x ≡ (w.client x.ver.client).exec) × IsRunning (w.client x.ver.client).phase × ((w'.client x.ver.client).exec ≡ (w.client x.ver.client).exec))
-fresh p w w' q st x k t = go (news p w w' q st _ t)
+fresh p w w' q st x k t = go (origin p w w' q st _ t)
   where
-    go : News p w w' (Prepare x k) → WasSent w (Prepare x k) ⊎ ((x ≡ (w.client x.ver.client).exec) × IsRunning (w.client x.ver.client).phase × ((w'.client x.ver.client).exec ≡ (w.client x.ver.client).exec))
+    go : Origin p w w' (Prepare x k) → WasSent w (Prepare x k) ⊎ ((x ≡ (w.client x.ver.client).exec) × IsRunning (w.client x.ver.client).phase × ((w'.client x.ver.client).exec ≡ (w.client x.ver.client).exec))
     go (Old z) = inl z
     go (Of_replica r f) = absurd f
     go (Of_warden ws a i e f) = absurd f
     go (Of_client cs i) =
         let a = prepares_act (rules p cs.c) (GotAt w cs.c) (w.client cs.c) cs.state cs.sent cs.act x k i in
-        let mine : x.ver.client ≡ cs.c = ap (λ (z : Exec). z.ver.client) a.0 ∙ (rec_reach p w q cs.c).own (running_under _ a.1) in
+        let mine : x.ver.client ≡ cs.c = ap (λ (z : Exec). z.ver.client) a.0 ∙ (rec_reach p w q cs.c).own (running_under_way _ a.1) in
         let after : (w'.client cs.c).exec ≡ (w.client cs.c).exec = ap (λ (f : ℕ → ClientState). (f cs.c).exec) cs.client ∙ ap (λ (z : ClientState). z.exec) (at_same cs.c cs.state w.client) ∙ a.2 in
         inr (subst (λ j. (x ≡ (w.client j).exec) × IsRunning (w.client j).phase × ((w'.client j).exec ≡ (w.client j).exec)) (sym mine) (a.0, a.1, after))
 
@@ -242,7 +243,7 @@ module _ (p : Plan) (w w' : World) (q : Reach p w) (st : Step p w w') (c : ℕ) 
       where
         go : WasSent w (Prepare x k) ⊎ IsNew x → (a : Attempt) × IsIn a (w'.client c).attempts × (a.ver ≡ x.ver)
         go (inl t) = let h = s.has x k t e in (h.0, kept_attempt h.0 h.1, h.2)
-        go (inr n) = let h = (try_rec p w q c).has (inl (running_under (w.client c).phase n.1)) in (h.0, kept_attempt h.0 h.1, h.2 ∙ ap (λ (z : Exec). z.ver) (sym n.0))
+        go (inr n) = let h = (try_rec p w q c).has (inl (running_under_way (w.client c).phase n.1)) in (h.0, kept_attempt h.0 h.1, h.2 ∙ ap (λ (z : Exec). z.ver) (sym n.0))
 
 single_reach : (p : Plan) (w : World) → Reach p w → (c : ℕ) → Single w c
 single_reach p _ Begins c = record { past = λ x k t. absurd t.there; pairs = λ x y k l t. absurd t.there; has = λ x k t. absurd t.there }
@@ -259,7 +260,7 @@ exec_order : (x y : Exec) → x.ver.client ≡ y.ver.client → IsEarlier x y �
 exec_order x y e = grind arith
 
 module _ (p : Plan) (pos : 0 < p.replicas) (w : World) (q : Reach p w) where
-  committed_prepared : (x : Exec) → CommitSent w x → (k : Content) × WasSent w (Prepare x k)
+  pub committed_prepared : (x : Exec) → CommitSent w x → (k : Content) × WasSent w (Prepare x k)
   committed_prepared x c = let v = ((safe_reach p pos w q).committed x c.0 c.1).1 in let m = quorums_meet p.replicas _ _ v v in voted_prepared p w q x Commit m.0 m.1
 
   not_both : (x y : Exec) (a b : Attempt) → CommitSent w x → CommitSent w y → IsOf w x a → IsOf w y b → x.ver.client ≡ y.ver.client → a.txn ≡ b.txn → IsEarlier x y → ⊥
@@ -275,6 +276,16 @@ module _ (p : Plan) (pos : 0 < p.replicas) (w : World) (q : Reach p w) where
     | inr o ↦ elim o [ inl z ↦ z | inr l ↦ absurd (not_both y x b a d c j i (sym e) (sym n) l) ]
   ]
 
+  -- a committed execution is one of a try, and of no other
+  pub tried : (x : Exec) → Committed w x → (a : Attempt) × IsOf w x a
+  tried x c =
+      let k = committed_prepared x (committed_sent p pos w q x c) in
+      let h = (single_reach p w q x.ver.client).has x k.0 k.1 refl in
+      (h.0, record { begun = h.1; version = h.2 })
+
+  pub one_attempt : (x : Exec) (a b : Attempt) → IsOf w x a → IsOf w x b → a ≡ b
+  one_attempt x a b i j = falling_one (w.client x.ver.client).attempts (try_rec p w q x.ver.client).falling a b i.begun j.begun (ap (λ (v : Version). v.ts) (i.version ∙ sym j.version))
+
 pub one_execution : OneExecution
 one_execution p pos events x y a b c d i j e n =
     let w = replay_from p first_world events in let q = events_reach p first_world first_world Begins events in
@@ -283,6 +294,4 @@ one_execution p pos events x y a b c d i j e n =
 pub one_try : OneTry
 one_try p pos events x c =
     let w = replay_from p first_world events in let q = events_reach p first_world first_world Begins events in
-    let k = committed_prepared p pos w q x (committed_sent p pos w q x c) in
-    let h = (single_reach p w q x.ver.client).has x k.0 k.1 refl in
-    (h.0, record { begun = h.1; version = h.2 }, λ b o. falling_one (w.client x.ver.client).attempts (try_rec p w q x.ver.client).falling b h.0 o.begun h.1 (ap (λ (v : Version). v.ts) (o.version ∙ sym h.2)))
+    let h = tried p pos w q x c in (h.0, h.1, λ b o. one_attempt p pos w q x b h.0 o h.1)

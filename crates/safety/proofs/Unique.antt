@@ -1,4 +1,4 @@
-use Rattle.std.proofs.Common.{◌≡◌, ℕ, ◌<◌, ◌⊎◌, inl, inr, refl, ap, sym, ◌∙◌, subst, true, false, List, [], ◌∷◌, arith}
+use Rattle.std.proofs.Common.{◌≡◌, ℕ, ◌<◌, inl, inr, ap, sym, ◌∙◌, subst, false, List, [], ◌∷◌, arith}
 use Rattle.std.specs.Prelude.{suc}
 use Rattle.morty_base.specs.declared.names.Exec.{Exec}
 use Rattle.morty_base.specs.declared.names.Version.{Version}
@@ -10,38 +10,19 @@ use Rattle.morty_base.specs.Names.{key_before, wid_before}
 use Rattle.protocol.specs.Lists.{IsIn}
 use Rattle.protocol.specs.Base.{entries_of}
 use Rattle.protocol.specs.World.{Plan, World, first_world, replay_from}
-use Rattle.protocol.specs.Decided.{WasSent, IsWrite, IsRising, IsBase}
+use Rattle.protocol.specs.Decided.{WasSent, IsWrite, IsBase}
 use Rattle.safety.specs.Bases.{BaseIsOne}
 use Rattle.protocol.proofs.Orders.{key_trans, key_irreflexive, wid_equal, exec_of}
-use Rattle.protocol_steps.proofs.Dropped.{true_false}
 use Rattle.protocol_steps.proofs.Reach.{Reach, events_reach}
 use Rattle.protocol_steps.proofs.Reach.From.{Begins}
+use Rattle.safety.proofs.Rising.{IsStrict, same_members}
 use Rattle.safety.proofs.Cuts.{one_content}
 use Rattle.safety.proofs.Agreed.{safe_reach}
 use Rattle.safety.proofs.Bases.{rising_one, entry_wid}
 
--- two rising lists with the same members are equal
-before_not : (b c : BaseEntry) → key_before b.key c.key ≡ true → key_before c.key b.key ≡ true → ⊥
-before_not b c p q = true_false (sym (key_trans b.key c.key b.key p q) ∙ key_irreflexive b.key)
-
-same_members : (bs cs : List BaseEntry) → IsRising bs → IsRising cs → ((d : BaseEntry) → IsIn d bs → IsIn d cs) → ((d : BaseEntry) → IsIn d cs → IsIn d bs) → bs ≡ cs
-same_members [] [] r s f g = refl
-same_members [] (c ∷ cs) r s f g = absurd (g c (inl refl))
-same_members (b ∷ bs) [] r s f g = absurd (f b (inl refl))
-same_members (b ∷ bs) (c ∷ cs) r s f g = go (same_members bs cs r.1 s.1) (f b (inl refl)) (g c (inl refl))
-  where
-    join : b ≡ c → bs ≡ cs → b ∷ bs ≡ c ∷ cs
-    join e h = ap (λ (x : BaseEntry). x ∷ bs) e ∙ ap (λ (l : List BaseEntry). c ∷ l) h
-
-    tails : b ≡ c → (((d : BaseEntry) → IsIn d bs → IsIn d cs) → ((d : BaseEntry) → IsIn d cs → IsIn d bs) → bs ≡ cs) → b ∷ bs ≡ c ∷ cs
-    tails e ih = join e (ih
-        (λ d i. elim (f d (inr i)) [ inl z ↦ absurd (true_false (sym (subst (λ (y : BaseEntry). key_before b.key y.key ≡ true) (z ∙ sym e) (r.0 d i)) ∙ key_irreflexive b.key)) | inr j ↦ j ])
-        (λ d i. elim (g d (inr i)) [ inl z ↦ absurd (true_false (sym (subst (λ (y : BaseEntry). key_before c.key y.key ≡ true) (z ∙ e) (s.0 d i)) ∙ key_irreflexive c.key)) | inr j ↦ j ]))
-
-    go : (((d : BaseEntry) → IsIn d bs → IsIn d cs) → ((d : BaseEntry) → IsIn d cs → IsIn d bs) → bs ≡ cs) → (b ≡ c) ⊎ IsIn b cs → (c ≡ b) ⊎ IsIn c bs → b ∷ bs ≡ c ∷ cs
-    go ih (inl e) i = tails e ih
-    go ih (inr i) (inl e) = tails (sym e) ih
-    go ih (inr i) (inr j) = absurd (before_not b c (r.0 c j) (s.0 b i))
+-- no key is before itself, nor two before each other
+keys_strict : IsStrict (λ (d e : BaseEntry). key_before d.key e.key)
+keys_strict = record { itself = λ d. key_irreflexive d.key; chain = λ d e f. key_trans d.key e.key f.key }
 
 entry_one : (x : Exec) (i : ℕ) (ws : List Write) (d e : BaseEntry) → IsIn d (entries_of x i ws) → IsIn e (entries_of x i ws) → d.wid.seq ≡ e.wid.seq → d ≡ e
 entry_one x i [] d e j k q = absurd j
@@ -69,7 +50,8 @@ module _ (p : Plan) (pos : 0 < p.replicas) (w : World) (q : Reach p w) where
       let low : wid_before d.wid e.0.wid ≡ false = subst (λ (z : BaseEntry). wid_before z.wid e.0.wid ≡ false) back f.3 in
       subst (λ (z : BaseEntry). IsIn z cs) (sym (write_one v d e.0 (b.only d i) (c.only e.0 e.1) low e.3)) e.1
 
+  pub base_one : (v : Version) (bs cs : List BaseEntry) → IsBase w v bs → IsBase w v cs → bs ≡ cs
+  base_one v bs cs b c = same_members (λ (d e : BaseEntry). key_before d.key e.key) keys_strict bs cs b.rising c.rising (into v bs cs b c) (into v cs bs c b)
+
 pub base_is_one : BaseIsOne
-base_is_one p pos events v bs cs b c =
-    let w = replay_from p first_world events in let q = events_reach p first_world first_world Begins events in
-    same_members bs cs b.rising c.rising (into p pos w q v bs cs b c) (into p pos w q v cs bs c b)
+base_is_one p pos events v bs cs b c = base_one p pos (replay_from p first_world events) (events_reach p first_world first_world Begins events) v bs cs b c

@@ -38,7 +38,7 @@ abbrev pub PartFact : ℕ → World → Exec → ℕ → ToldAnswer → Type 0
 PartFact n w x v t = ((0 < t.replica) × (t.replica ≤ n)) × ToldFact (w.replica t.replica) x v t.vote t.accepted t.decided t.content
 
 -- what a round has evidence of
-pub record RaceEvidence (n : ℕ) (w : World) (a : Round) : Type 0 where
+pub record RoundEvidence (n : ℕ) (w : World) (a : Round) : Type 0 where
   pub told : (t : ToldAnswer) → IsIn t a.tolds → PartFact n w a.exec a.view t
   pub tellers : IsDistinct (map (λ (t : ToldAnswer). t.replica) a.tolds)
   pub accept : (j : ℕ) → IsIn j a.accepts → ((0 < j) × (j ≤ n)) × AcceptedFact (w.replica j) a.exec a.view
@@ -55,7 +55,7 @@ pub record TruncEvidence (n : ℕ) (w : World) (t : Truncation) : Type 0 where
   pub answerers : IsDistinct (map (λ (a : FencedAnswer). a.replica) t.answers)
 
 pub record WardEvident (n : ℕ) (w : World) (s : WardenState) : Type 0 where
-  pub round : (a : Round) → IsIn a s.rounds → RaceEvidence n w a
+  pub round : (a : Round) → IsIn a s.rounds → RoundEvidence n w a
   pub decision : (d : DecidedProposal) → IsIn d s.decisions → WasSent w (Decide d.exec d.proposal.choice d.proposal.content)
   pub trunc : (t : Truncation) → IsIn t s.truncations → TruncEvidence n w t
 
@@ -118,7 +118,7 @@ act_ward p w w' q st k s sent new (Tolds x v u a o f n got range l e h) t = rw e
     choice_of (inr z) y m = let g = round_found x v (w.warden k).rounds a f in let e1 : y ≡ fixed (a.tolds ++ u ∷ []) = (let n = z.0 in some_is (sym m ∙ n)) in
         ((e1, (let l = z.1 in rw length-append (omega (arith, l)))), rw (e1, g.1, g.2) (new (Finalize x v (fixed (a.tolds ++ u ∷ [])).choice (fixed (a.tolds ++ u ∷ [])).content) (rw z.2 (inl refl))))
 
-    fresh : RaceEvidence p.replicas w' (told_round a u o)
+    fresh : RoundEvidence p.replicas w' (told_round a u o)
     fresh = let g = round_found x v (w.warden k).rounds a f in let old = t.round a g.0 in record {
       told = λ y i. elim (IsIn-cases y a.tolds (u ∷ []) i) [ inl j ↦ old.told y j | inr j ↦ elim j [ inl z ↦ rw (z, g.1, g.2) (part_grows p w w' st x v u (range, subst (RFact u.replica (w.replica u.replica)) got.4 ((facts_reach p w q).said got.0 u.replica got.1 got.3))) | inr z ↦ absurd z ] ];
       tellers = distinct_map_more (λ (y : ToldAnswer). y.replica) a.tolds u old.tellers l;
@@ -133,7 +133,7 @@ act_ward p w w' q st k s sent new (Accepts x v j a y f n got range l e u h) t = 
   trunc = λ c i. t.trunc c (rw u at i);
 }
   where
-    fresh : RaceEvidence p.replicas w' (with_accept a y j)
+    fresh : RoundEvidence p.replicas w' (with_accept a y j)
     fresh = let g = round_found x v (w.warden k).rounds a f in let old = t.round a g.0 in record {
       told = old.told;
       tellers = old.tellers;

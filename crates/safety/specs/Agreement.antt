@@ -2,6 +2,7 @@
 use Rattle.std.specs.Prelude.{◌≡◌, ◌≢◌, ◌<◌, false, List, Some}
 use Rattle.morty_base.specs.declared.names.Exec.{Exec}
 use Rattle.morty_base.specs.declared.names.NodeId.{NodeId}
+use Rattle.msg.specs.declared.Choice.{Choice}
 use Rattle.msg.specs.declared.Choice.TheVariants.{Abandon, Commit as ToCommit}
 use Rattle.msg.specs.declared.Envelope.{Envelope}
 use Rattle.msg.specs.declared.Content.{Content}
@@ -12,10 +13,17 @@ use Rattle.msg.specs.declared.Event.{Event}
 use Rattle.protocol.specs.World.{Plan, first_world, replay_from}
 use Rattle.protocol.specs.Decided.{decided_by}
 
+-- no execution is decided Abandon at one node and Commit at another
 abbrev pub Agreement : Type 0
 Agreement = (p : Plan) → 0 < p.replicas → (events : List Event) (x : Exec) (a b : NodeId) →
     decided_by (replay_from p first_world events) a x ≡ Some Abandon →
     decided_by (replay_from p first_world events) b x ≢ Some ToCommit
+
+-- what a node decided or learnt of an execution stays, whatever happens next
+abbrev pub DecisionsStay : Type 0
+DecisionsStay = (p : Plan) → 0 < p.replicas → (events more : List Event) (n : NodeId) (x : Exec) (d : Choice) →
+    decided_by (replay_from p first_world events) n x ≡ Some d →
+    decided_by (replay_from p (replay_from p first_world events) more) n x ≡ Some d
 
 -- two executions that are decided Commit are not in conflict, by the contents that their clients prepared
 abbrev pub NoConflict : Type 0

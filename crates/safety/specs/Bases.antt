@@ -19,6 +19,7 @@ use Rattle.protocol.specs.Warden.{FencedAnswer, Truncation}
 use Rattle.msg.specs.declared.Event.{Event}
 use Rattle.protocol.specs.World.{Plan, World, first_world, replay_from}
 use Rattle.protocol.specs.Decided.{UpTo, WasSent, Committed, IsBase}
+use Rattle.protocol.specs.Outcome.{base_at}
 use Rattle.safety.specs.Locks.{AbandonLock}
 use Rattle.protocol_steps.specs.Fences.{AnsweredOn}
 
@@ -27,12 +28,13 @@ abbrev pub BaseIsOne : Type 0
 BaseIsOne = (p : Plan) → 0 < p.replicas → (events : List Event) (v : Version) (bs cs : List BaseEntry) →
     IsBase (replay_from p first_world events) v bs → IsBase (replay_from p first_world events) v cs → bs ≡ cs
 
--- once a Drop of v was sent, its base is the base of the world at v, and stays so: nothing at or below v is committed later
+-- once a Drop of v was sent, its base is the base of the world at v, now and after any more events, and nothing at or
+-- below v is committed later that was not committed then
 abbrev pub BaseOfDrop : Type 0
 BaseOfDrop = (p : Plan) → 0 < p.replicas → (events more : List Event) (v : Version) (bs : List BaseEntry) →
     WasSent (replay_from p first_world events) (Drops v bs) →
-    IsBase (replay_from p first_world events) v bs
-    × IsBase (replay_from p (replay_from p first_world events) more) v bs
+    (bs ≡ base_at p (replay_from p first_world events) v)
+    × (bs ≡ base_at p (replay_from p (replay_from p first_world events) more) v)
     × ((x : Exec) → UpTo x.ver v → Committed (replay_from p (replay_from p first_world events) more) x → Committed (replay_from p first_world events) x)
 
 -- where the counted answers of a truncation name x

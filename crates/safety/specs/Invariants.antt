@@ -2,16 +2,20 @@
 use Rattle.std.specs.Prelude.{◌≡◌, ℕ, ◌<◌, ◌≤◌, ◌⊎◌, List, Option, Some}
 use Rattle.morty_base.specs.declared.names.Exec.{Exec}
 use Rattle.morty_base.specs.declared.names.NodeId.{NodeId}
+use Rattle.morty_base.specs.declared.names.NodeId.TheVariants.{Client, Replica}
 use Rattle.msg.specs.declared.Body.{Body}
 use Rattle.msg.specs.declared.Content.{Content}
 use Rattle.msg.specs.declared.Vote.TheVariants.{Final}
 use Rattle.msg.specs.declared.Choice.{Choice}
 use Rattle.msg.specs.declared.Choice.TheVariants.{Abandon, Commit as ToCommit}
-use Rattle.msg.specs.declared.Body.TheVariants.{Finalize}
+use Rattle.msg.specs.declared.Body.TheVariants.{Finalize, Accepted, Decide, Vote as Voted}
+use Rattle.msg.specs.declared.Vote.{Vote}
+use Rattle.protocol.specs.Lists.{IsIn}
+use Rattle.protocol.specs.Replica.{Acceptance, acceptances}
 use Rattle.protocol.specs.Votes.{vote}
 use Rattle.msg.specs.declared.Event.{Event}
 use Rattle.protocol.specs.World.{Plan, World, first_world, replay_from}
-use Rattle.protocol.specs.Decided.{decided_by, WasSent, Committed, HasContent}
+use Rattle.protocol.specs.Decided.{decided_by, WasSent, WasSentBy, Committed, HasContent}
 use Rattle.protocol.specs.Quorums.{Quorum}
 use Rattle.safety.specs.Locks.{VotedCommit, HasAccepted, Shut, AbandonLock, CommitLock}
 
@@ -31,7 +35,7 @@ CommitNeedsVotes = (p : Plan) → 0 < p.replicas → (events : List Event) (x : 
 abbrev pub AbandonProposals : Type 0
 AbandonProposals = (p : Plan) → 0 < p.replicas → (events : List Event) (x : Exec) (v : ℕ) (o : Option Content) →
     WasSent (replay_from p first_world events) (Finalize x v Abandon o) →
-    ((u : Option Content) × WasSent (replay_from p first_world events) (Finalize x 0 Abandon u))
+    ((u : Option Content) × WasSentBy (replay_from p first_world events) (Client x.ver.client) (Finalize x 0 Abandon u))
     ⊎ ((r : ℕ) × (0 < r) × (r ≤ p.replicas) × Shut (replay_from p first_world events) x r)
 
 -- all Finalizes of x in one view carry one choice; what f+1 replicas accepted in one view, every Finalize of a higher view carries
@@ -46,9 +50,26 @@ Views = (p : Plan) → 0 < p.replicas → (events : List Event) → ViewsOf p (r
 -- where a node decided Commit of x, Commit of x is locked; the two are never locked both
 pub record LocksOf (p : Plan) (w : World) : Type 0 where
   pub abandoned : (n : NodeId) (x : Exec) → decided_by w n x ≡ Some Abandon → AbandonLock p.replicas w x
-  pub final : (r : ℕ) (x : Exec) → vote (w.replica r) x ≡ Some Final → AbandonLock p.replicas w x
+  pub final : (x : Exec) → WasSent w (Voted x Final) → AbandonLock p.replicas w x
   pub committed : (x : Exec) → Committed w x → CommitLock p.replicas w x
   pub never_both : (x : Exec) → AbandonLock p.replicas w x → CommitLock p.replicas w x → ⊥
 
 abbrev pub LocksHold : Type 0
 LocksHold = (p : Plan) → 0 < p.replicas → (events : List Event) → LocksOf p (replay_from p first_world events)
+
+-- what a replica voted and accepted by its list is just what it said in the mail
+pub record AnswersOf (w : World) (r : ℕ) : Type 0 where
+  pub votes : (x : Exec) (v : Vote) → vote (w.replica r) x ≡ Some v → WasSentBy w (Replica r) (Voted x v)
+  pub voted : (x : Exec) (v : Vote) → WasSentBy w (Replica r) (Voted x v) → vote (w.replica r) x ≡ Some v
+  pub accepts : (a : Acceptance) → IsIn a (acceptances (w.replica r)) → WasSentBy w (Replica r) (Accepted a.exec a.view)
+  pub accepted : (x : Exec) (v : ℕ) → WasSentBy w (Replica r) (Accepted x v) →
+      (a : Acceptance) × IsIn a (acceptances (w.replica r)) × (a.exec ≡ x) × (a.view ≡ v)
+
+abbrev pub AnswersTell : Type 0
+AnswersTell = (p : Plan) (events : List Event) (r : ℕ) → AnswersOf (replay_from p first_world events) r
+
+-- x is committed just where a Decide of Commit of it was sent
+abbrev pub CommitIsSent : Type 0
+CommitIsSent = (p : Plan) → 0 < p.replicas → (events : List Event) (x : Exec) →
+    (Committed (replay_from p first_world events) x → (o : Option Content) × WasSent (replay_from p first_world events) (Decide x ToCommit o))
+    × ((o : Option Content) → WasSent (replay_from p first_world events) (Decide x ToCommit o) → Committed (replay_from p first_world events) x)

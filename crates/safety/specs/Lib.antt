@@ -2,4 +2,5 @@ pub mod Locks
 pub mod Agreement
 pub mod Tries
 pub mod Bases
+pub mod Outcome
 pub mod Invariants

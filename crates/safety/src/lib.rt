@@ -1,14 +1,33 @@
-//! The laws of safety over every list of events: agreement, one execution, the base.
+//! The laws of safety, for every plan with a replica and every list of events: agreement, one execution, the base.
+//!
+//! Each law is the contract of a function with an empty body. One induction over the small steps of a world carries
+//! what was proposed, what is locked, what was decided, the Final votes and the bases of Drops, since each of these
+//! needs the others one step earlier: a proposal follows the locks below its view, a decision needs a lock, a Final
+//! vote and a Drop need decisions, and a later vote needs the base of an earlier Drop. The laws are read off from it.
 #![tactic(auto)]
 
-ghost use Rattle.safety.specs.Agreement.{Agreement, NoConflict};
+ghost use Rattle.safety.specs.Agreement.{Agreement, DecisionsStay, NoConflict};
 ghost use Rattle.safety.specs.Tries.{OneExecution, OneTry};
 ghost use Rattle.safety.specs.Bases.{BaseOfDrop, BaseIsOne, TwoVotes, FenceNames, DropSettles};
-ghost use Rattle.safety.specs.Invariants.{OneContent, CommitNeedsVotes, AbandonProposals, Views, LocksHold};
+ghost use Rattle.safety.specs.Outcome.{CommittedList, BaseAt};
+ghost use Rattle.safety.specs.Invariants.{
+  OneContent,
+  CommitNeedsVotes,
+  AbandonProposals,
+  Views,
+  LocksHold,
+  AnswersTell,
+  CommitIsSent,
+};
 
 /// No two nodes decide an execution differently, whatever happens.
 pub fn agreement()
     ensures { Agreement }
+{}
+
+/// What a node decided of an execution, or learnt as decided, stays.
+pub fn decisions_stay()
+    ensures { DecisionsStay }
 {}
 
 /// No two committed executions are in conflict.
@@ -26,7 +45,19 @@ pub fn one_try()
     ensures { OneTry }
 {}
 
-/// A Drop carries the base of the world, and nothing at or below it is committed later.
+/// The list of the committed executions of a world is the one list that has each of them once, in rising order, with
+/// the content of its Prepare, its transaction and its try.
+pub fn committed_list()
+    ensures { CommittedList }
+{}
+
+/// The base of a world at a version is the one list, rising by key, that has for each key with a committed write at or
+/// below the version the write of the greatest name.
+pub fn base_of_world()
+    ensures { BaseAt }
+{}
+
+/// A Drop carries the base of the world at its version, and keeps it: nothing at or below it is committed later.
 pub fn base_of_drop()
     ensures { BaseOfDrop }
 {}
@@ -36,42 +67,53 @@ pub fn base_is_one()
     ensures { BaseIsOne }
 {}
 
-/// Of two votes for Commit in conflict at one replica, the earlier one was decided Abandon there or dropped.
-pub fn two_votes()
-    ensures { TwoVotes }
-{}
-
-/// The counted answers of a truncation name each committed execution.
-pub fn fence_names()
-    ensures { FenceNames }
-{}
-
-/// What is at or below a dropped version is committed, or never will be.
-pub fn drop_settles()
-    ensures { DropSettles }
-{}
-
 /// All contents of an execution in the mail are equal.
 pub fn one_content()
     ensures { OneContent }
 {}
 
-/// Commit needs votes.
+/// Where Commit of an execution was decided or proposed, a quorum of the replicas voted Commit on it.
 pub fn commit_needs_votes()
     ensures { CommitNeedsVotes }
 {}
 
-/// Abandon is proposed for a reason.
+/// Of two votes for Commit in conflict at one replica, the earlier one was decided Abandon there, or dropped with no
+/// later write of the key in the base.
+pub fn two_votes()
+    ensures { TwoVotes }
+{}
+
+/// Where Abandon was proposed, the client proposed it in view 0, or some replica is shut to the execution.
 pub fn abandon_proposals()
     ensures { AbandonProposals }
 {}
 
-/// One choice a view, and what a quorum accepted is carried on.
+/// The proposals of one view carry one choice, and what a quorum accepted, every proposal of a higher view carries.
 pub fn views()
     ensures { Views }
 {}
 
-/// What is decided is locked, and not both ways.
+/// What is decided is locked, a Final vote locks Abandon, and nothing is locked both ways.
 pub fn locks_hold()
     ensures { LocksHold }
+{}
+
+/// The counted answers of a truncation name each committed execution at or below its version, or it was dropped before.
+pub fn fence_names()
+    ensures { FenceNames }
+{}
+
+/// What is at or below a dropped version is committed, or Abandon of it is locked.
+pub fn drop_settles()
+    ensures { DropSettles }
+{}
+
+/// A replica voted and accepted by its list just what it said in the mail.
+pub fn answers_tell()
+    ensures { AnswersTell }
+{}
+
+/// An execution is committed just where a Decide of Commit of it was sent.
+pub fn commit_is_sent()
+    ensures { CommitIsSent }
 {}

@@ -1,4 +1,5 @@
 pub mod Read
 pub mod Labels
+pub mod Following
 pub mod Noted
 pub mod Between

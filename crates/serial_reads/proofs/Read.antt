@@ -37,7 +37,8 @@ use Rattle.protocol_steps.proofs.Reach.Step.{Stands, Client_acts, Replica_acts, 
 use Rattle.protocol_steps.proofs.Reach.From.{Begins, Next}
 use Rattle.protocol_steps.proofs.Provenance.{from_to_all, from_parcels}
 use Rattle.safety.proofs.Locks.{sent_grows}
-use Rattle.safety.proofs.Cuts.{CommitSent, commit_sent, commit_prepared}
+use Rattle.safety.proofs.Cuts.{CommitSent, commit_prepared}
+use Rattle.safety.proofs.Shapes.{commit_sent}
 use Rattle.safety.proofs.Agreed.{safe_reach}
 use Rattle.safety.proofs.Based.{drop_rising, sent_committed}
 use Rattle.safety.proofs.Bases.{entry_wid, rising_one}

@@ -1,25 +1,30 @@
-//! What committed executions read.
+//! What executions read, toward the law that committed reads are those of a serial run.
+//!
+//! A Note that is sure names a first value or the last write of a committed execution, since what a replica holds as
+//! sure comes from a commit or from a base (`Read`). A client's answers were told by Notes, and it prepares only once
+//! each is sure, so each read of a prepared content names such a write (`Labels`, `Following`, `Noted`). And nothing
+//! committed lies between a read and its reader, since it would be in conflict with the reader (`Between`).
 #![tactic(auto)]
 
 ghost use Rattle.serial_reads.specs.Reads.{SureNotes, NothingBetween};
 ghost use Rattle.serial_reads.specs.Programs.{ReadsNoted, ReadsSure};
 
-/// What a Note calls sure is committed, or a first value.
+/// What a Note calls sure is a first value, or the last write of its key in a committed execution, below the reader.
 pub fn sure_notes()
     ensures { SureNotes }
 {}
 
-/// Between what a committed execution read and itself nothing is written.
+/// Between the write that a committed execution read and the execution itself nothing committed writes the key.
 pub fn nothing_between()
     ensures { NothingBetween }
 {}
 
-/// The reads of each prepared content were told by Notes, and their names called sure.
+/// Each read of a prepared content was told by a Note, and its write name was called sure by one.
 pub fn reads_noted()
     ensures { ReadsNoted }
 {}
 
-/// So they name first values or last writes of committed executions below.
+/// The write name of each read of a prepared content is that of a first value or of a committed last write, below it.
 pub fn reads_sure()
     ensures { ReadsSure }
 {}

@@ -1,4 +1,4 @@
-use Rattle.safety.proofs.Based as proved
+use Rattle.safety.proofs.Listed as proved
 use Rattle.safety.proofs.base_of_drop.Goals as goal
 
 pub returns : goal.returns
