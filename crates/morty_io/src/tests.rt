@@ -1,8 +1,13 @@
+ghost use Rattle.std.specs.Prelude.{◌<◌, ◌≤◌, IfSome, OnOk, IsErrOf, length};
+ghost use Rattle.morty_io.specs.Faults.{Rose};
+ghost use Rattle.morty_io.specs.Bytes.{Takes};
+
 use crate::{
     MemSink, MemSource, ReadEnd, Sink, Source, StdSink, StdSource, WriteFault, read_whole,
     write_whole,
 };
 use morty_base::List;
+use std::alloc::Global;
 use std::test::Fail;
 
 const TEXT: &[u8] = b"morty 1";
@@ -80,5 +85,56 @@ fn reads_and_writes_the_system(rt: HostRuntime) -> Result<(), Fail> {
         Err(WriteFault)
     );
     assert_eq!(rt; small.as_slice(), b"mor".as_slice());
+    Ok(())
+}
+
+#[derive(Clone, Copy, Debug, PartialEq, Eq)]
+enum CopyEnd {
+    Read(ReadEnd),
+    Write,
+}
+
+// What a caller that is generic over both can say.
+fn copy_whole<S: Source, K: Sink>(
+    alloc: Global,
+    src: &mut S,
+    out: &mut K,
+    limit: usize,
+) -> Result<(), CopyEnd>
+    requires { limit < usize.MAX }
+    ensures copied { OnOk result (IfSome (S.left src.old) (λ bytes. Takes (K.taken out.old) (K.taken out.new) bytes)) }
+    ensures long { IsErrOf result (CopyEnd.Read ReadEnd.TooLong) → IfSome (S.left src.old) (λ bytes. limit < length bytes) }
+    ensures short { OnOk result (IfSome (S.left src.old) (λ bytes. length bytes ≤ limit)) }
+    ensures wrote { IsErrOf result CopyEnd.Write → Rose (K.faults out.old) (K.faults out.new) }
+    ensures read { IsErrOf result (CopyEnd.Read ReadEnd.ReadFault) → Rose (S.faults src.old) (S.faults src.new) }
+{
+    match read_whole(alloc, src, limit) {
+        Ok(bytes) => match write_whole(out, bytes.as_slice()) {
+            Ok(()) => Ok(()),
+            Err(_) => Err(CopyEnd::Write),
+        },
+        Err(end) => Err(CopyEnd::Read(end)),
+    }
+}
+
+#[test]
+fn copies_memory(rt: HostRuntime) -> Result<(), Fail> {
+    let alloc = rt.alloc();
+    let mut src = MemSource::new(List::from_slice(alloc, TEXT)?, List::new(alloc));
+    let mut out = MemSink::new(alloc, 3, List::from_slice(alloc, &[1u64])?)?;
+    assert_eq!(rt;
+        copy_whole(alloc, &mut src, &mut out, 6),
+        Err(CopyEnd::Read(ReadEnd::TooLong))
+    );
+
+    let mut src = MemSource::new(List::from_slice(alloc, TEXT)?, List::new(alloc));
+    assert_eq!(rt;
+        copy_whole(alloc, &mut src, &mut out, 7),
+        Err(CopyEnd::Write)
+    );
+
+    let mut src = MemSource::new(List::from_slice(alloc, TEXT)?, List::new(alloc));
+    assert_eq!(rt; copy_whole(alloc, &mut src, &mut out, 7), Ok(()));
+    assert_eq!(rt; out.taken(), TEXT);
     Ok(())
 }

@@ -1,5 +1,5 @@
 -- The basic laws.
-use Rattle.std.proofs.Common.{◌≡◌, ℕ, ◌<◌, ◌≤◌, ◌⊎◌, inl, inr, ap, sym, ◌∙◌, Bool, true, false, cond, List, [], ◌∷◌, ◌++◌, arith, append_assoc}
+use Rattle.std.proofs.Common.{refl, ◌≡◌, ℕ, ◌<◌, ◌≤◌, ◌⊎◌, inl, inr, ap, sym, ◌∙◌, Bool, true, false, cond, List, [], ◌∷◌, ◌++◌, arith, append_assoc}
 use Rattle.std.proofs.lemmas.List.{append-nil}
 use Rattle.std.proofs.lemmas.Bool.Decides.{nat_tests}
 use Rattle.morty_base.specs.declared.names.Version.{Version}
@@ -8,7 +8,7 @@ use Rattle.morty_base.specs.Names.{before}
 use Rattle.msg.specs.declared.Envelope.{Envelope}
 use Rattle.protocol.specs.Lists.{IsIn}
 use Rattle.protocol.specs.Replica.{Handled, takes, after_taking, acceptances, dropped, fence}
-use Rattle.protocol.specs.World.{Plan, World, first_world}
+use Rattle.protocol.specs.World.{after, enabled, made, Move, Plan, World, first_world}
 use Rattle.protocol.specs.Decided.{UpTo}
 use Rattle.protocol.specs.Steps.{Happens}
 use Rattle.protocol.specs.Steps.Happens.{Stays, Client_moves, Replica_moves, Warden_moves}
@@ -18,6 +18,11 @@ use Rattle.protocol.proofs.Orders.{before_false}
 use Rattle.protocol.proofs.Grows.{decided_stays, promised_grows, dropped_grows, fence_grows, vote_stays}
 use Rattle.protocol.proofs.Quorums as quorums
 use Rattle.protocol.proofs.Steps.{after_happens, always}
+use Rattle.std.proofs.Common.{Option, Some, None, length, ◌+◌}
+use Rattle.std.specs.Prelude.{nat_le}
+use Rattle.protocol.proofs.Logic.{le_is}
+use Rattle.protocol.specs.Laws.{Outcome, EventsMove, ReplaysJoin}
+use Rattle.protocol.specs.Laws.Outcome.{Not_enabled, Refused, Moved}
 
 pub quorums_meet : QuorumsMeet
 quorums_meet n p q a b =
@@ -121,3 +126,19 @@ taken_was_sent p events = (always p TookMail (took_step p) first_world (record {
 
 pub events_step : EventsStep
 events_step = after_happens
+
+pub events_move : EventsMove
+unfolding after
+events_move p w e = by_enabled (enabled p w e) refl
+  where
+    by_room : (v : Move) → enabled p w e ≡ Some v → (t : Bool) → nat_le 200000 (length w.mail) ≡ t → made w (Some v) ≡ cond t w (record v.world { mail = w.mail ++ v.sent; moved = w.moved + 1 }) → Outcome p w e
+    by_room v q true f g = Refused v q (le_is _ _ f) (ap (made w) q ∙ g)
+    by_room v q false f g = Moved v q (grind (arith, nat_tests)) (ap (made w) q ∙ g)
+
+    by_enabled : (o : Option Move) → enabled p w e ≡ o → Outcome p w e
+    by_enabled None q = Not_enabled q (ap (made w) q)
+    by_enabled (Some v) q = by_room v q (nat_le 200000 (length w.mail)) refl refl
+
+pub replays_join : ReplaysJoin
+replays_join p w [] more = refl
+replays_join p w (e ∷ events) more = replays_join p (after p w e) events more

@@ -1,5 +1,5 @@
 -- What is decided and committed in a world, and its base at a version.
-use Rattle.std.specs.Prelude.{◌≡◌, true, false, List, [], ◌∷◌, Option, Some, option_map, find, ◌⊎◌}
+use Rattle.std.specs.Prelude.{◌≡◌, false, List, Option, Some, option_map, find, ◌⊎◌}
 use Rattle.morty_base.specs.declared.names.Version.{Version}
 use Rattle.morty_base.specs.declared.names.Exec.{Exec}
 use Rattle.morty_base.specs.declared.names.NodeId.{NodeId}

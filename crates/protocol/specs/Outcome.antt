@@ -10,7 +10,6 @@ use Rattle.msg.specs.declared.Choice.TheVariants.{Commit as ToCommit}
 use Rattle.msg.specs.declared.Content.{Content}
 use Rattle.msg.specs.declared.Kept.{Kept}
 use Rattle.msg.specs.declared.BaseEntry.{BaseEntry}
-use Rattle.msg.specs.declared.Envelope.{Envelope}
 use Rattle.msg.specs.declared.Body.{Body}
 use Rattle.msg.specs.declared.Body.TheVariants.{Prepare}
 use Rattle.morty_base.specs.Names.{same_version, same_exec, exec_before}

@@ -1,4 +1,4 @@
-ghost use Rattle.protocol.specs.Laws.{QuorumsMeet, ReplicasGrow, MailGrows, TakenWasSent, EventsStep};
+ghost use Rattle.protocol.specs.Laws.{QuorumsMeet, ReplicasGrow, MailGrows, TakenWasSent, EventsStep, EventsMove, ReplaysJoin};
 
 /// Any two quorums share a replica.
 pub fn quorums_meet()
@@ -23,4 +23,14 @@ pub fn taken_was_sent()
 /// Each event stands still, or lets one client, one replica or one warden take one step.
 pub fn events_step()
     ensures { EventsStep }
+{}
+
+/// An event that is not enabled, or is refused for the mail, changes nothing; any other does its move.
+pub fn events_move()
+    ensures { EventsMove }
+{}
+
+/// A list of events is replayed part by part.
+pub fn replays_join()
+    ensures { ReplaysJoin }
 {}

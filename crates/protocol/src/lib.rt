@@ -5,7 +5,9 @@
 mod laws;
 mod runs;
 
-pub use laws::{events_step, mail_grows, quorums_meet, replicas_grow, taken_was_sent};
+pub use laws::{
+    events_move, events_step, mail_grows, quorums_meet, replays_join, replicas_grow, taken_was_sent,
+};
 use morty_base::{Key, Wid};
 use msg::Choice;
 pub use runs::{dropped_reader, hurried_client, three_views, vanished_write, warden_abandons};

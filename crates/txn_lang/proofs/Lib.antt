@@ -5,3 +5,4 @@ pub mod Asking
 pub mod Knowing
 pub mod SerialRuns
 pub mod Resuming
+pub mod Trees

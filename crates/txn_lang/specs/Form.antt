@@ -1,7 +1,7 @@
 -- What a program that was read from a text has besides its limits: names of locals in the order of their first
 -- places as targets, no use of a local before such a place, and a statement in each block other than an else block.
-use Rattle.std.specs.Prelude.{◌≡◌, ℕ, ◌+◌, ◌<◌, ◌≤◌, max, List, length, nat_lt, if◌then◌else◌, ⊤}
-use Rattle.std.specs.List.{AllPass, IsDistinct}
+use Rattle.std.specs.Prelude.{◌≡◌, ℕ, ◌+◌, ◌<◌, ◌≤◌, max, List, length, IsTrue, nat_lt, if◌then◌else◌, ⊤}
+use Rattle.std.specs.List.{list_all, IsDistinct}
 use Rattle.std.specs.Int.{IsNonNegative}
 use Rattle.std.specs.Str.{bytes_eq}
 use Rattle.txn_lang.specs.Names.{is_name}
@@ -58,7 +58,7 @@ abbrev mutual
 
 -- distinct names, each of a local that has a place as a target, in the order of first places
 pub record IsWellFormed (names : List (List ℕ)) (body : Commands) : Type 0 where
-  pub named : AllPass is_name names
+  pub named : IsTrue (list_all is_name names)
   pub distinct : IsDistinct bytes_eq names
   pub filled : IsFilled body
   pub formed : IsFormed (length names) 0 body

@@ -5,6 +5,8 @@ mod evaluation;
 mod laws;
 mod limits;
 mod program;
+#[cfg(test)]
+mod tests;
 mod tree;
 
 pub use evaluation::{EvalFault, eval};

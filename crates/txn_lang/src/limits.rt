@@ -60,7 +60,8 @@ fn with_parentheses(count: u64, operand: &Expr, least: u64) -> u64
     }
 }
 
-fn tokens(e: &Expr) -> u64
+/// How many tokens the canonical text of an expression has, up to 5,000.
+pub fn tokens(e: &Expr) -> u64
     ensures { result ≡ min (tokens (term e.now)) PLENTY }
 {
     match e {

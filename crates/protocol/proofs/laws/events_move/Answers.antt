@@ -1,0 +1,5 @@
+use Rattle.protocol.proofs.Basic as proved
+use Rattle.protocol.proofs.laws.events_move.Goals as goal
+
+pub returns : goal.returns
+returns c = proved.events_move
