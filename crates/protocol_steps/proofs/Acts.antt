@@ -1,3 +1,7 @@
+use Rattle.morty_base.specs.declared.names.Exec.{Exec}
+use Rattle.std.proofs.Common.{ℤ, ◌++◌}
+use Rattle.msg.specs.declared.Write.{Write}
+use Rattle.protocol.specs.Client.{values, walk}
 use Rattle.std.proofs.Common.{◌≡◌, ℕ, ◌<◌, ◌≤◌, ◌+◌, ◌⊎◌, refl, true, false, Bool, List, [], ◌∷◌, ◌++◌, Option, Some, None, length}
 use Rattle.std.specs.Prelude.{cond, nat_le, nat_lt, ◌&&◌, ◌==◌}
 use Rattle.std.specs.List.{list_any}
@@ -98,10 +102,25 @@ pub data TryStep (c c' : ClientState) : Type 0 where
   Next_try : c.phase ≡ Between → c.exec.ver.ts < c'.exec.ver.ts → c'.attempts ≡ record { ver = c'.exec.ver; txn = c'.begun; try = c'.try } ∷ c.attempts → ((e : Decision) → IsIn e c.decisions → IsIn e c'.decisions)
       → ((c'.begun ≡ c.begun) × IsAborted c.fate) ⊎ (c'.begun ≡ c.begun + 1) → IsRunning c'.phase → TryStep c c'
 
+-- the execution goes on: it has the answers that it had, and perhaps more
+pub record Continues (c c' : ClientState) : Type 0 where
+  pub exec : c'.exec ≡ c.exec
+  pub running : IsRunning c.phase
+  pub begun : c'.begun ≡ c.begun
+  pub more : List ℤ
+  pub answers : values c'.answers ≡ values c.answers ++ more
+
+-- what an act does to the writes of the execution under way: its answers only grow, what it puts are its writes, and
+-- what it prepares has these writes or none
+pub record WriteStep (r : Rules) (c c' : ClientState) (sent : List Body) : Type 0 where
+  pub grows : IsRunning c'.phase → Continues c c' ⊎ IsEarlier c.exec c'.exec
+  pub puts : (x : Exec) (ws : List Write) → IsIn (Puts x ws) sent → (x ≡ c'.exec) × IsRunning c'.phase × (ws ≡ (walk r c').writes)
+  pub prepares : (x : Exec) (k : Content) → IsIn (Prepare x k) sent → (x ≡ c.exec) × IsRunning c.phase × ((k.writes ≡ (walk r c).writes) ⊎ (k.writes ≡ []))
+
 -- acts one after another
 pub data Chain (r : Rules) (Got : NodeId → Body → Type 0) (c : ClientState) : ClientState → List Body → Type 0 where
   Start : Chain r Got c c []
-  Then : (c1 c2 : ClientState) (s1 s2 : List Body) → Chain r Got c c1 s1 → Act r Got c1 c2 s2 → TryStep c1 c2 → Chain r Got c c2 (s1 ++ s2)
+  Then : (c1 c2 : ClientState) (s1 s2 : List Body) → Chain r Got c c1 s1 → Act r Got c1 c2 s2 → TryStep c1 c2 → WriteStep r c1 c2 s2 → Chain r Got c c2 (s1 ++ s2)
 
 -- what the counted votes call for has its ground in them
 abbrev pub Tells : ℕ → List CountedVote → TallyOut → Type 0

@@ -44,13 +44,25 @@ over_same : (x : Exec) (s s' : ClientState) → s'.exec ≡ s.exec → (s.phase 
 over_same x s s' e f (inl h) = inl (rw e h)
 over_same x s s' e f (inr h) = inr (rw e h.0, f h.1)
 
-earlier_trans : (x y z : Exec) → IsEarlier x y → IsEarlier y z → IsEarlier x z
+pub earlier_trans : (x y z : Exec) → IsEarlier x y → IsEarlier y z → IsEarlier x z
 earlier_trans x y z p q = grind arith
 
 stage_between : (p q : Phase) → SameStage p q → p ≡ Between → q ≡ Between
 stage_between Between q s e = s
 stage_between (Running a b) q s e = cc
 stage_between (Prepared k v o a) q s e = cc
+
+-- an act leaves the execution, or begins a later one
+pub act_exec : (r : Rules) (Got : NodeId → Body → Type 0) (s s' : ClientState) (sent : List Body) → Act r Got s s' sent → (s'.exec ≡ s.exec) ⊎ IsEarlier s.exec s'.exec
+act_exec r Got s s' sent (Quiet e d g q) = inl e
+act_exec r Got s s' sent (Advances u n l c d q) = inr l
+act_exec r Got s s' sent (Prepares k n e d f q) = inl e
+act_exec r Got s s' sent (Counts k vs acs j v a got b c e d f q) = inl e
+act_exec r Got s s' sent (Proposes k vs acs d0 a b e d f q) = inl e
+act_exec r Got s s' sent (Accepts k vs d0 acs j a got b c e d f q) = inl e
+act_exec r Got s s' sent (Decides k vs o' acs d0 a w e d f q) = inl e
+act_exec r Got s s' sent (Gives_up n e d f q) = inl e
+act_exec r Got s s' sent (Learns j d0 k n got e d f q) = inl e
 
 module _ (r : Rules) (Got : NodeId → Body → Type 0) (s s' : ClientState) (sent : List Body) where
   pub act_over : Act r Got s s' sent → (x : Exec) → Over x s → Over x s'

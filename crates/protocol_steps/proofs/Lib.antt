@@ -4,6 +4,7 @@ pub mod Provenance
 pub mod Accepts
 pub mod Acts
 pub mod Phases
+pub mod Writing
 pub mod ClientChain
 pub mod Reach
 pub mod Known

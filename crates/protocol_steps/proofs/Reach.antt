@@ -14,7 +14,7 @@ use Rattle.protocol.specs.Coordinator.Input.{Goes, Runs, Hurries, Comes}
 use Rattle.msg.specs.declared.Event.{Event}
 use Rattle.protocol.specs.World.{Plan, World, in_range, rules, at, to_all, parcel, warden_rules, first_world, after, replay_from}
 use Rattle.protocol.proofs.Members.{IsIn-left, at_same, at_cases}
-use Rattle.protocol_steps.proofs.Acts.{Act, TryStep, Chain}
+use Rattle.protocol_steps.proofs.Acts.{Act, TryStep, WriteStep, Chain}
 use Rattle.protocol_steps.proofs.ClientChain.{client_chain, CameTo}
 use Rattle.protocol_steps.proofs.Acts.Act.{Quiet, Advances, Prepares, Counts, Proposes, Accepts, Decides, Gives_up, Learns}
 use Rattle.protocol_steps.proofs.Acts.Chain.{Start, Then}
@@ -39,6 +39,7 @@ pub record ClientActs (p : Plan) (w w' : World) : Type 0 where
   pub sent : List Body
   pub act : Act (rules p c) (GotAt w c) (w.client c) state sent
   pub tries : TryStep (w.client c) state
+  pub writes : WriteStep (rules p c) (w.client c) state sent
   pub client : w'.client ≡ at c state w.client
   pub replica : w'.replica ≡ w.replica
   pub warden : w'.warden ≡ w.warden
@@ -107,7 +108,7 @@ module _ (p : Plan) (o w : World) (c : ℕ) (real : in_range c (length p.clients
   chain_reach : (s : ClientState) (sent : List Body) → Chain (rules p c) (GotAt w c) (w.client c) s sent → From p o (part_way p w c s sent)
   unfolding part_way
   chain_reach s sent Start = Next w _ r (Stands (record { client = at_itself c w.client; replica = refl; warden = refl; mail = append-nil w.mail }))
-  chain_reach s sent (Then c1 c2 s1 s2 chain act tries) =
+  chain_reach s sent (Then c1 c2 s1 s2 chain act tries writes) =
       Next (part_way p w c c1 s1) _ (chain_reach c1 s1 chain) (Client_acts (record {
         c = c;
         real = real;
@@ -116,6 +117,7 @@ module _ (p : Plan) (o w : World) (c : ℕ) (real : in_range c (length p.clients
         act = subst (λ z. Act (rules p c) (GotAt (part_way p w c c1 s1) c) z c2 s2) (sym (at_same c c1 w.client))
             (act_grows (rules p c) (GotAt w c) (GotAt (part_way p w c c1 s1) c) (λ n b g. (g.0, IsIn-left g.0 w.mail _ g.1, g.2, g.3, g.4)) c1 c2 s2 act);
         tries = subst (λ z. TryStep z c2) (sym (at_same c c1 w.client)) tries;
+        writes = subst (λ z. WriteStep (rules p c) z c2 s2) (sym (at_same c c1 w.client)) writes;
         client = at_twice c c1 c2 w.client;
         replica = refl;
         warden = refl;

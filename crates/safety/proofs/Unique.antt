@@ -24,7 +24,7 @@ use Rattle.safety.proofs.Bases.{rising_one, entry_wid}
 keys_strict : IsStrict (λ (d e : BaseEntry). key_before d.key e.key)
 keys_strict = record { itself = λ d. key_irreflexive d.key; chain = λ d e f. key_trans d.key e.key f.key }
 
-entry_one : (x : Exec) (i : ℕ) (ws : List Write) (d e : BaseEntry) → IsIn d (entries_of x i ws) → IsIn e (entries_of x i ws) → d.wid.seq ≡ e.wid.seq → d ≡ e
+pub entry_one : (x : Exec) (i : ℕ) (ws : List Write) (d e : BaseEntry) → IsIn d (entries_of x i ws) → IsIn e (entries_of x i ws) → d.wid.seq ≡ e.wid.seq → d ≡ e
 entry_one x i [] d e j k q = absurd j
 entry_one x i (w ∷ ws) d e (inl a) (inl b) q = a ∙ sym b
 entry_one x i (w ∷ ws) d e (inl a) (inr k) q = let l = (entry_wid x (suc i) ws e k).2 in let f = ap (λ (z : BaseEntry). z.wid.seq) a in absurd (omega (arith, l, f, q))

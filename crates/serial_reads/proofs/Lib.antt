@@ -3,3 +3,5 @@ pub mod Labels
 pub mod Following
 pub mod Noted
 pub mod Between
+pub mod Fronts
+pub mod Current

@@ -1,3 +1,12 @@
+use Rattle.std.specs.Prelude.{length, ◌||◌, ◌==◌, nat_lt, nat_le, not}
+use Rattle.std.specs.List.{list_any}
+use Rattle.msg.specs.declared.Body.TheVariants.{Puts}
+use Rattle.morty_base.specs.Names.{same_version}
+use Rattle.protocol.specs.Lists.{when}
+use Rattle.protocol.specs.Replica.{is_above, version_of}
+use Rattle.protocol.specs.Held.{Put, put_after, larger, last_put, abandons, kept_put, counting_put}
+use Rattle.protocol_steps.proofs.Dropped.{taken_above}
+use Rattle.protocol_steps.proofs.Facts.{taking_reach}
 use Rattle.std.proofs.Common.{◌≡◌, ℕ, ℤ, ◌<◌, ◌⊎◌, inl, inr, refl, ap, sym, ◌∙◌, subst, true, false, Bool, cond, List, [], ◌∷◌, ◌++◌, Option, Some, None, arith}
 use Rattle.std.specs.Prelude.{suc, map, filter, filter_map, flat_map, ◌&&◌}
 use Rattle.std.specs.List.{cons_option}
@@ -113,39 +122,77 @@ IsIn-filter_map {A} {B} f b (x ∷ xs) i = go (λ j. IsIn-filter_map f b xs j) (
     go ih (Some c) q (inl z) = (x, inl refl, q ∙ ap Some (sym z))
     go ih (Some c) q (inr i) = let k = ih i in (k.0, inr k.1, k.2)
 
--- what a sure write that is held is
+-- what a write that is held is
 data HeldCase (firsts : List First2) (h : Handled) (k : Key) (a : Held) : Type 0 where
   Is_first : a ≡ first_held firsts k → HeldCase firsts h k a
   Of_base : (b : BaseEntry) → IsIn b (base h) → k ≡ b.key → a ≡ record { wid = b.wid; value = b.value; sure = true } → HeldCase firsts h k a
   Of_commit : (c : Kept) → IsIn c (commits h) → last_write c.exec true 1 k c.content.writes ≡ Some a → HeldCase firsts h k a
+  Of_put : (v : Version) (q : Put) → kept_put h v ≡ Some q → last_write q.exec false 1 k q.writes ≡ Some a → HeldCase firsts h k a
 
-put_unsure : (h : Handled) (k : Key) (v : Version) (a : Held) (o : Option Put) → (elim o [ None ↦ None | Some p ↦ last_write p.exec false 1 k p.writes ]) ≡ Some a → a.sure ≡ true → ⊥
-put_unsure h k v a None e f = cc
-put_unsure h k v a (Some p) e f = true_false (sym f ∙ (last_is p.exec false 1 k p.writes a e).sure)
+counted_put : (h : Handled) (k : Key) (v : Version) (a : Held) (o : Option Put) → last_put k (counting_put h v o) ≡ Some a → (q : Put) × (o ≡ Some q) × (last_write q.exec false 1 k q.writes ≡ Some a)
+counted_put h k v a None e = cc
+counted_put h k v a (Some p) e = go (not (list_any (λ x. same_version v x.ver && nat_le p.exec.eid x.eid) (abandons h))) e
+  where
+    go : (t : Bool) → last_put k (when t p) ≡ Some a → (q : Put) × (Some p ≡ Some q) × (last_write q.exec false 1 k q.writes ≡ Some a)
+    go true e = (p, refl, e)
+    go false e = cc
 
-held_is : (firsts : List First2) (h : Handled) (k : Key) (a : Held) → IsIn a (held firsts h k) → a.sure ≡ true → HeldCase firsts h k a
+held_is : (firsts : List First2) (h : Handled) (k : Key) (a : Held) → IsIn a (held firsts h k) → HeldCase firsts h k a
 unfolding held
-held_is firsts h k a (inl e) f = Is_first e
-held_is firsts h k a (inr i) f = elim (IsIn-cases a (map (λ (b : BaseEntry). record { wid = b.wid; value = b.value; sure = true }) (filter (λ (b : BaseEntry). same_key k b.key) (base h))) _ i) [
+held_is firsts h k a (inl e) = Is_first e
+held_is firsts h k a (inr i) = elim (IsIn-cases a (map (λ (b : BaseEntry). record { wid = b.wid; value = b.value; sure = true }) (filter (λ (b : BaseEntry). same_key k b.key) (base h))) _ i) [
   | inl j ↦ let m = IsIn-map (λ (b : BaseEntry). record { wid = b.wid; value = b.value; sure = true }) a (filter (λ (b : BaseEntry). same_key k b.key) (base h)) j in
       let n = IsIn-filtered (λ (b : BaseEntry). same_key k b.key) (base h) m.0 m.1 in Of_base m.0 n.0 (key_is k m.0.key n.1) m.2
   | inr j ↦ elim (IsIn-cases a (filter_map (λ (c : Kept). last_write c.exec true 1 k c.content.writes) (filter (λ (c : Kept). before (dropped h) c.exec.ver) (commits h))) _ j) [
     | inl g ↦ let m = IsIn-filter_map (λ (c : Kept). last_write c.exec true 1 k c.content.writes) a (filter (λ (c : Kept). before (dropped h) c.exec.ver) (commits h)) g in
         Of_commit m.0 (IsIn-filtered (λ (c : Kept). before (dropped h) c.exec.ver) (commits h) m.0 m.1).0 m.2
-    | inr g ↦ let m = IsIn-filter_map (λ v. elim (counting_put h v (kept_put h v)) [ None ↦ None | Some p ↦ last_write p.exec false 1 k p.writes ]) a _ g in
-        absurd (put_unsure h k m.0 a (counting_put h m.0 (kept_put h m.0)) m.2 f)
+    | inr g ↦ let m = IsIn-filter_map (λ v. last_put k (counting_put h v (kept_put h v))) a _ g in
+        let c = counted_put h k m.0 a (kept_put h m.0) m.2 in Of_put m.0 c.0 c.1 c.2
   ]
 ]
 
-latest_is : (firsts : List First2) (h : Handled) (k : Key) (v : Version) → before no_version v ≡ true → (latest firsts h k v).sure ≡ true → (before (latest firsts h k v).wid.ver v ≡ true) × HeldCase firsts h k (latest firsts h k v)
+latest_is : (firsts : List First2) (h : Handled) (k : Key) (v : Version) → before no_version v ≡ true → (before (latest firsts h k v).wid.ver v ≡ true) × HeldCase firsts h k (latest firsts h k v)
 unfolding latest
-latest_is firsts h k v n s = elim (best_is v (first_held firsts k) (held firsts h k)) [
+latest_is firsts h k v n = elim (best_is v (first_held firsts k) (held firsts h k)) [
   | inl z ↦ (subst (λ (y : Held). before y.wid.ver v ≡ true) (sym z) (subst (λ (y : Wid). before y.ver v ≡ true) (sym (first_is firsts k)) n), Is_first z)
-  | inr z ↦ (z.1, held_is firsts h k (best_below v (first_held firsts k) (held firsts h k)) z.0 s)
+  | inr z ↦ (z.1, held_is firsts h k (best_below v (first_held firsts k) (held firsts h k)) z.0)
 ]
 
+-- a Puts that is kept was taken
+kept_taken : (h : Handled) (v : Version) (q : Put) → kept_put h v ≡ Some q → (m : Envelope) × IsIn m h × (m.body ≡ Puts q.exec q.writes)
+kept_taken [] v q e = cc
+kept_taken (m ∷ h) v q e = go (λ z. kept_taken h v q z) m.body refl (kept_put h v) refl e
+  where
+    some_is : (a b : Put) → Some a ≡ Some b → a ≡ b
+    some_is a b e = cc
+
+    puts_is : (x : Exec) (ws : List Write) (a : Put) → a ≡ record { exec = x; writes = ws } → Puts x ws ≡ Puts a.exec a.writes
+    puts_is x ws a e = rw e refl
+
+    here : (x : Exec) (ws : List Write) → m.body ≡ Puts x ws → record { exec = x; writes = ws } ≡ q → (n : Envelope) × IsIn n (m ∷ h) × (n.body ≡ Puts q.exec q.writes)
+    here x ws b z = (m, inl refl, b ∙ puts_is x ws q (sym z))
+
+    older : (kept_put h v ≡ Some q → (n : Envelope) × IsIn n h × (n.body ≡ Puts q.exec q.writes)) → kept_put h v ≡ Some q → (n : Envelope) × IsIn n (m ∷ h) × (n.body ≡ Puts q.exec q.writes)
+    older ih z = let k = ih z in (k.0, inr k.1, k.2)
+
+    choose : (kept_put h v ≡ Some q → (n : Envelope) × IsIn n h × (n.body ≡ Puts q.exec q.writes)) → (x : Exec) (ws : List Write) → m.body ≡ Puts x ws → (o : Option Put) → kept_put h v ≡ o → larger o (record { exec = x; writes = ws }) ≡ Some q → (n : Envelope) × IsIn n (m ∷ h) × (n.body ≡ Puts q.exec q.writes)
+    choose ih x ws b None f z = here x ws b (some_is (record { exec = x; writes = ws }) q z)
+    choose ih x ws b (Some p) f z = by (nat_lt p.exec.eid x.eid || (p.exec.eid == x.eid && nat_lt (length p.writes) (length ws))) z
+      where
+        by : (t : Bool) → Some (cond t (record { exec = x; writes = ws }) p) ≡ Some q → (n : Envelope) × IsIn n (m ∷ h) × (n.body ≡ Puts q.exec q.writes)
+        by true z = here x ws b (some_is (record { exec = x; writes = ws }) q z)
+        by false z = older ih (f ∙ z)
+
+    go : (kept_put h v ≡ Some q → (n : Envelope) × IsIn n h × (n.body ≡ Puts q.exec q.writes)) → (b : Body) → m.body ≡ b → (o : Option Put) → kept_put h v ≡ o → put_after v o b ≡ Some q → (n : Envelope) × IsIn n (m ∷ h) × (n.body ≡ Puts q.exec q.writes)
+    go ih (Puts x ws) b o f z = by (same_version v x.ver) z
+      where
+        by : (t : Bool) → cond t (larger o (record { exec = x; writes = ws })) o ≡ Some q → (n : Envelope) × IsIn n (m ∷ h) × (n.body ≡ Puts q.exec q.writes)
+        by true z = choose ih x ws b o f z
+        by false z = older ih (f ∙ z)
+    go ih _ b o f z = older ih (f ∙ z)
+
 -- a sure write, as far as what was sent tells
-data Sure (p : Plan) (w : World) (k : Key) (wid : Wid) (value : ℤ) : Type 0 where
+pub data Sure (p : Plan) (w : World) (k : Key) (wid : Wid) (value : ℤ) : Type 0 where
   Firsts : wid ≡ record { ver = no_version; eid = 0; seq = 0 } → value ≡ (first_held p.firsts k).value → Sure p w k wid value
   Lasts : (y : Exec) (l : Content) → CommitSent w y → WasSent w (Prepare y l) → IsLastWrite y l k wid value → Sure p w k wid value
 
@@ -153,12 +200,27 @@ sure_grows : (p : Plan) (w w' : World) → Step p w w' → (k : Key) (wid : Wid)
 sure_grows p w w' s k wid value (Firsts e f) = Firsts e f
 sure_grows p w w' s k wid value (Lasts y l c t i) = Lasts y l (c.0, sent_grows p w w' s _ c.1) (sent_grows p w w' s _ t) i
 
+-- where a value comes from: it is sure, or a Puts has it
+pub data Source (p : Plan) (w : World) (k : Key) (wid : Wid) (value : ℤ) (s : Bool) : Type 0 where
+  Certain : Sure p w k wid value → Source p w k wid value s
+  Put_by : s ≡ false → (y : Exec) (ws : List Write) → before no_version y.ver ≡ true → WasSent w (Puts y ws) → IsIn (record { key = k; wid = wid; value = value }) (entries_of y 1 ws) → Source p w k wid value s
+
+source_grows : (p : Plan) (w w' : World) → Step p w w' → (k : Key) (wid : Wid) (value : ℤ) (s : Bool) → Source p w k wid value s → Source p w' k wid value s
+source_grows p w w' st k wid value s (Certain c) = Certain (sure_grows p w w' st k wid value c)
+source_grows p w w' st k wid value s (Put_by e y ws n t i) = Put_by e y ws n (sent_grows p w w' st _ t) i
+
 module _ (p : Plan) (pos : 0 < p.replicas) (w : World) (q : Reach p w) (r : ℕ) (k : Key) (a : Held) where
-  held_sure : HeldCase p.firsts (w.replica r) k a → Sure p w k a.wid a.value
-  held_sure (Is_first e) = Firsts (ap (λ (y : Held). y.wid) e ∙ first_is p.firsts k) (ap (λ (y : Held). y.value) e)
-  held_sure (Of_commit c i e) = let l = last_is c.exec true 1 k c.content.writes a e in
-      Lasts c.exec c.content (Some c.content, commit_sent p w q r c i) (commit_prepared p pos w q (safe_reach p pos w q) r c i) (record { entry = l.entry; last = l.last })
-  held_sure (Of_base b i e f) = go (before no_version (dropped (w.replica r))) refl
+  held_source : HeldCase p.firsts (w.replica r) k a → Source p w k a.wid a.value a.sure
+  held_source (Is_first e) = Certain (Firsts (ap (λ (y : Held). y.wid) e ∙ first_is p.firsts k) (ap (λ (y : Held). y.value) e))
+  held_source (Of_put v u e f) =
+      let m = kept_taken (w.replica r) v u e in
+      let l = last_is u.exec false 1 k u.writes a f in
+      Put_by l.sure u.exec u.writes
+      (subst (λ (b : Body). is_above no_version (version_of b) ≡ true) m.2 (taken_above (w.replica r) (taking_reach p w q r) m.0 m.1))
+      (record { envelope = m.0; there = ((took_reach p w q).took r m.0 m.1).0; body = m.2 }) l.entry
+  held_source (Of_commit c i e) = let l = last_is c.exec true 1 k c.content.writes a e in
+      Certain (Lasts c.exec c.content (Some c.content, commit_sent p w q r c i) (commit_prepared p pos w q (safe_reach p pos w q) r c i) (record { entry = l.entry; last = l.last }))
+  held_source (Of_base b i e f) = Certain (go (before no_version (dropped (w.replica r))) refl)
     where
       go : (z : Bool) → before no_version (dropped (w.replica r)) ≡ z → Sure p w k a.wid a.value
       go false n = absurd (subst (λ (bs : List BaseEntry). IsIn b bs) (no_base (w.replica r) n) i)
@@ -227,43 +289,42 @@ note_said firsts r h m e v k wid value s lost i q = go (takes h m.body) refl i
     ]
     go false z i = absurd (refusal_note h m.body v k wid value s lost (subst (λ b. IsIn b (refusal h m.body)) q (letter_in r m.from (refusal h m.body) e i)))
 
-module _ (p : Plan) (pos : 0 < p.replicas) (v : Version) (k : Key) (wid : Wid) (value : ℤ) (lost : Option Wid) where
-  Told : World → Type 0
-  Told w = (before wid.ver v ≡ true) × Sure p w k wid value
-
-  latest_told : (w : World) → Reach p w → (r : ℕ) → Latest p.firsts (w.replica r) v k wid value true → (before wid.ver v ≡ true) × Sure p w k wid value
+module _ (p : Plan) (pos : 0 < p.replicas) (v : Version) (k : Key) (wid : Wid) (value : ℤ) (s : Bool) (lost : Option Wid) where
+  latest_told : (w : World) → Reach p w → (r : ℕ) → Latest p.firsts (w.replica r) v k wid value s → (before wid.ver v ≡ true) × Source p w k wid value s
   latest_told w q r l =
-      let a = latest_is p.firsts (w.replica r) k v l.above l.sure in
-      let s = held_sure p pos w q r k (latest p.firsts (w.replica r) k v) a.1 in
-      (subst (λ (y : Wid). before y.ver v ≡ true) l.same_wid a.0, subst (λ (y : Wid). Sure p w k y value) l.same_wid (subst (λ (y : ℤ). Sure p w k (latest p.firsts (w.replica r) k v).wid y) l.same_value s))
+      let a = latest_is p.firsts (w.replica r) k v l.above in
+      let o = held_source p pos w q r k (latest p.firsts (w.replica r) k v) a.1 in
+      (subst (λ (y : Wid). before y.ver v ≡ true) l.same_wid a.0,
+        subst (λ (y : Bool). Source p w k wid value y) l.sure (subst (λ (y : Wid). Source p w k y value (latest p.firsts (w.replica r) k v).sure) l.same_wid (subst (λ (y : ℤ). Source p w k (latest p.firsts (w.replica r) k v).wid y (latest p.firsts (w.replica r) k v).sure) l.same_value o)))
 
-  told_grows : (w w' : World) → Step p w w' → (before wid.ver v ≡ true) × Sure p w k wid value → (before wid.ver v ≡ true) × Sure p w' k wid value
-  told_grows w w' s t = (t.0, sure_grows p w w' s k wid value t.1)
+  told_grows : (w w' : World) → Step p w w' → (before wid.ver v ≡ true) × Source p w k wid value s → (before wid.ver v ≡ true) × Source p w' k wid value s
+  told_grows w w' st t = (t.0, source_grows p w w' st k wid value s t.1)
 
-  note_reach : (w : World) → Reach p w → (e : Envelope) (r : ℕ) → IsIn e w.mail → e.from ≡ Replica r → e.body ≡ Note v k wid value true lost → (before wid.ver v ≡ true) × Sure p w k wid value
+  pub note_reach : (w : World) → Reach p w → (e : Envelope) (r : ℕ) → IsIn e w.mail → e.from ≡ Replica r → e.body ≡ Note v k wid value s lost → (before wid.ver v ≡ true) × Source p w k wid value s
   note_reach _ Begins e r i f b = absurd i
-  note_reach _ (Next w w' q (Stands s)) e r i f b = told_grows w w' (Stands s) (note_reach w q e r (subst (λ l. IsIn e l) s.mail i) f b)
-  note_reach _ (Next w w' q (Client_acts s)) e r i f b = elim (IsIn-cases e w.mail (flat_map (to_all p.replicas (Client s.c)) s.sent) (subst (λ l. IsIn e l) s.mail i)) [
-    | inl j ↦ told_grows w w' (Client_acts s) (note_reach w q e r j f b)
-    | inr j ↦ let z = (from_to_all p.replicas (Client s.c) s.sent e j).0 in absurd (cc)
+  note_reach _ (Next w w' q (Stands u)) e r i f b = told_grows w w' (Stands u) (note_reach w q e r (subst (λ l. IsIn e l) u.mail i) f b)
+  note_reach _ (Next w w' q (Client_acts u)) e r i f b = elim (IsIn-cases e w.mail (flat_map (to_all p.replicas (Client u.c)) u.sent) (subst (λ l. IsIn e l) u.mail i)) [
+    | inl j ↦ told_grows w w' (Client_acts u) (note_reach w q e r j f b)
+    | inr j ↦ let z = (from_to_all p.replicas (Client u.c) u.sent e j).0 in absurd (cc)
   ]
-  note_reach _ (Next w w' q (Warden_acts s)) e r i f b = elim (IsIn-cases e w.mail (flat_map (parcel p.replicas (Warden s.k)) s.sent) (subst (λ l. IsIn e l) s.mail i)) [
-    | inl j ↦ told_grows w w' (Warden_acts s) (note_reach w q e r j f b)
-    | inr j ↦ let z = (from_parcels p.replicas (Warden s.k) s.sent e j).0 in absurd (cc)
+  note_reach _ (Next w w' q (Warden_acts u)) e r i f b = elim (IsIn-cases e w.mail (flat_map (parcel p.replicas (Warden u.k)) u.sent) (subst (λ l. IsIn e l) u.mail i)) [
+    | inl j ↦ told_grows w w' (Warden_acts u) (note_reach w q e r j f b)
+    | inr j ↦ let z = (from_parcels p.replicas (Warden u.k) u.sent e j).0 in absurd (cc)
   ]
-  note_reach _ (Next w w' q (Replica_acts s)) e r i f b = elim (IsIn-cases e w.mail (says p.firsts s.r (w.replica s.r) s.m) (subst (λ l. IsIn e l) s.mail i)) [
-    | inl j ↦ told_grows w w' (Replica_acts s) (note_reach w q e r j f b)
-    | inr j ↦ elim (note_said p.firsts s.r (w.replica s.r) s.m e v k wid value true lost j b) [
-      | inl l ↦ told_grows w w' (Replica_acts s) (latest_told w q s.r l)
-      | inr l ↦ latest_told w' (Next w w' q (Replica_acts s)) s.r (subst (λ (h : Handled). Latest p.firsts h v k wid value true) (sym (ap (λ (g : ℕ → Handled). g s.r) s.replica ∙ at_same s.r (after_taking (w.replica s.r) s.m) w.replica)) l)
+  note_reach _ (Next w w' q (Replica_acts u)) e r i f b = elim (IsIn-cases e w.mail (says p.firsts u.r (w.replica u.r) u.m) (subst (λ l. IsIn e l) u.mail i)) [
+    | inl j ↦ told_grows w w' (Replica_acts u) (note_reach w q e r j f b)
+    | inr j ↦ elim (note_said p.firsts u.r (w.replica u.r) u.m e v k wid value s lost j b) [
+      | inl l ↦ told_grows w w' (Replica_acts u) (latest_told w q u.r l)
+      | inr l ↦ latest_told w' (Next w w' q (Replica_acts u)) u.r (subst (λ (h : Handled). Latest p.firsts h v k wid value s) (sym (ap (λ (g : ℕ → Handled). g u.r) u.replica ∙ at_same u.r (after_taking (w.replica u.r) u.m) w.replica)) l)
     ]
   ]
 
 pub sure_notes : SureNotes
 sure_notes p pos events e r v k wid value lost i f b =
     let w = replay_from p first_world events in let q = events_reach p first_world first_world Begins events in
-    let n = note_reach p pos v k wid value lost w q e r i f b in (n.0, public w q n.1)
+    let n = note_reach p pos v k wid value true lost w q e r i f b in (n.0, public w q n.1)
   where
-    public : (w : World) → Reach p w → Sure p w k wid value → IsSure p w k wid value
-    public w q (Firsts e f) = First_value e f
-    public w q (Lasts y l c t i) = Last_write y l (sent_committed p pos w q y c) t i
+    public : (w : World) → Reach p w → Source p w k wid value true → IsSure p w k wid value
+    public w q (Certain (Firsts e f)) = First_value e f
+    public w q (Certain (Lasts y l c t i)) = Last_write y l (sent_committed p pos w q y c) t i
+    public w q (Put_by z y ws n t i) = absurd (true_false z)

@@ -32,7 +32,8 @@ ReadsSure = (p : Plan) → 0 < p.replicas → HasPrograms p → (events : List E
     WasSent (replay_from p first_world events) (Prepare x k) → IsIn r k.reads →
     (before r.wid.ver x.ver ≡ true) × ((value : ℤ) × IsSure p (replay_from p first_world events) r.key r.wid value)
 
--- not proved yet: each read of a prepared content has the value that its write name stands for
+-- each read of a prepared content is below its version, and has the value of the write that it names: a first value, or
+-- the last write of the key in a committed execution
 abbrev pub ReadsCurrent : Type 0
 ReadsCurrent = (p : Plan) → 0 < p.replicas → HasPrograms p → ((c n : ℕ) → WritesGrow (walk_at (slice_get (rules p c).txns n))) →
     (events : List Event) (x : Exec) (k : Content) (r : Read) →

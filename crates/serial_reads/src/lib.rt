@@ -7,7 +7,7 @@
 #![tactic(auto)]
 
 ghost use Rattle.serial_reads.specs.Reads.{SureNotes, NothingBetween};
-ghost use Rattle.serial_reads.specs.Programs.{ReadsNoted, ReadsSure};
+ghost use Rattle.serial_reads.specs.Programs.{ReadsNoted, ReadsSure, ReadsCurrent};
 
 /// What a Note calls sure is a first value, or the last write of its key in a committed execution, below the reader.
 pub fn sure_notes()
@@ -27,4 +27,9 @@ pub fn reads_noted()
 /// The write name of each read of a prepared content is that of a first value or of a committed last write, below it.
 pub fn reads_sure()
     ensures { ReadsSure }
+{}
+
+/// Each read of a prepared content has the value of the write that it names.
+pub fn reads_current()
+    ensures { ReadsCurrent }
 {}
