@@ -6,6 +6,7 @@ use Rattle.morty_base.specs.Names.{same_key}
 use Rattle.txn_lang.specs.declared.tree.Block.{Block}
 use Rattle.txn_lang.specs.Tree.{commands}
 use Rattle.txn_lang.specs.Actions.{Actions, program_actions}
+use Rattle.txn_lang.specs.Limits.{IsWithin}
 use Rattle.txn_lang.specs.Keys.{Entry, entry, found, held}
 use Rattle.txn_lang.specs.Runs.{Run, after_read, run, next_answer, replay, serial_run}
 
@@ -98,3 +99,19 @@ pub record GoesOn (a : Actions) (known : List Entry) (answers : List ℤ) (k : K
 abbrev pub GoesOnWithAnswer : Block → ℕ → Type 0
 GoesOnWithAnswer body n = (answers : List ℤ) (k : Key) → (replay body n answers).asks ≡ Some k →
     GoesOn (program_actions (commands body) n) [] answers k
+
+-- a run within the limits of programs
+pub record IsLimited (r : Run) : Type 0 where
+  pub begun : r.begun ≤ 4096
+  pub reads : length r.reads ≤ 64
+  pub writes : length r.writes ≤ 64
+  pub out : length r.out ≤ 64
+
+-- replays and serial runs of a program
+pub record AreLimited (body : Block) (n : ℕ) : Type 0 where
+  pub replays : (answers : List ℤ) → IsLimited (replay body n answers)
+  pub serials : (m : List Entry) → IsLimited (serial_run body n m)
+
+-- no run of a program within the limits passes them
+abbrev pub KeepsLimits : Block → ℕ → Type 0
+KeepsLimits body n = IsWithin n (commands body) → AreLimited body n
