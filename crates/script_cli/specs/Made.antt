@@ -1,7 +1,7 @@
 -- What is made of a script's text, and how a text is written.
 use Rattle.std.specs.Prelude.{◌≡◌, ℕ, List, [], Option}
 use Rattle.morty_io.specs.Bytes.{Takes, TakesPart}
-use Rattle.world.specs.declared.event.Event.{Event}
+use Rattle.msg.specs.declared.Event.{Event}
 use Rattle.world.specs.declared.script.FirstScript.{FirstScript}
 use Rattle.script_cli.specs.declared.top.Made.{Made}
 use Rattle.script_cli.specs.declared.top.Made.TheVariants.{NotBuilt, Report}

@@ -4,7 +4,7 @@ use Rattle.morty_base.specs.declared.names.Ended.TheVariants.{Quiet}
 use Rattle.morty_io.specs.Bytes.{Takes, TakesPart}
 use Rattle.report.specs.Text.{line_feed, report_of}
 use Rattle.world.specs.declared.script.FirstScript.{FirstScript}
-use Rattle.world.specs.declared.event.Event.{Event}
+use Rattle.msg.specs.declared.Event.{Event}
 use Rattle.world.specs.Rows.{rows_of}
 use Rattle.script_cli.specs.FirstForm.{IsFirstForm}
 

@@ -4,7 +4,7 @@ use Rattle.std.specs.Prelude.{count_by}
 use Rattle.report.specs.declared.rows.CommitRow.{CommitRow}
 use Rattle.report.specs.declared.rows.LeftRow.{LeftRow}
 use Rattle.report.specs.declared.rows.ValueRow.{ValueRow}
-use Rattle.world.specs.declared.event.Event.{Event}
+use Rattle.msg.specs.declared.Event.{Event}
 use Rattle.morty_base.specs.Names.{same_key}
 use Rattle.morty_base.proofs.Orders.{same_key_tells}
 use Rattle.txn_lang.specs.Value.{fits_word}

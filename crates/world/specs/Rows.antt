@@ -8,9 +8,9 @@ use Rattle.txn_lang.specs.Keys.{Entry, held}
 use Rattle.report.specs.declared.rows.CommitRow.{CommitRow}
 use Rattle.report.specs.declared.rows.Rows.{Rows}
 use Rattle.world.specs.declared.script.FirstScript.{FirstScript}
-use Rattle.world.specs.declared.event.Event.{Event}
-use Rattle.world.specs.declared.event.Event.TheVariants.{Picked, Ran}
-use Rattle.world.specs.declared.event.Pick.TheVariants.{Idle}
+use Rattle.msg.specs.declared.Event.{Event}
+use Rattle.msg.specs.declared.Event.TheVariants.{Picked, Ran}
+use Rattle.msg.specs.declared.Pick.TheVariants.{Idle}
 use Rattle.world.specs.Script.{cell, version_of, serial_run, last_values}
 
 -- each pick but Idle moved the world, and so did each segment that was given back

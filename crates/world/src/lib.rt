@@ -2,12 +2,11 @@
 //! protocol takes its place.
 #![tactic(auto)]
 
-mod event;
 mod list;
 mod run;
 mod script;
 mod stage;
 
-pub use event::{Event, Pick};
+pub use msg::{Event, Pick};
 pub use run::{Run, run_script};
 pub use script::FirstScript;

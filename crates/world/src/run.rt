@@ -4,12 +4,11 @@ ghost use Rattle.world.specs.Rows.{rows_of};
 ghost use Rattle.world.specs.Stage.{row_of, written_or, rank};
 ghost use Rattle.world.specs.Play.{IsPlay, turns_left};
 
-use crate::event::{Event, Pick};
 use crate::list::one;
 use crate::script::{FirstScript, cell};
 use crate::stage::{Slot, Stage, advance, event, waits_for};
 use morty_base::{Exec, List, NoMemory, Version};
-use msg::Content;
+use msg::{Content, Event, Pick};
 use report::{CommitRow, Rows, ValueRow};
 use std::alloc::Global;
 

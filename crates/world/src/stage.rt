@@ -4,11 +4,10 @@ ghost use Rattle.world.specs.Rows.{read_first, moved};
 ghost use Rattle.world.specs.declared.script.FirstScript.{FirstScript as FirstScriptValue};
 ghost use Rattle.world.specs.Stage.{content_of, IsReached, waits_for as waits_for_of, other_of, rank};
 
-use crate::event::{Event, Pick};
 use crate::list::one;
 use crate::script::{FirstScript, cell};
 use morty_base::{Ending, List, NoMemory, NodeId, Version, Wid};
-use msg::{Content, Read, Write};
+use msg::{Content, Event, Pick, Read, Write};
 use std::alloc::Global;
 
 /// What is under way in the run. A content goes from the client to the replica and back.
