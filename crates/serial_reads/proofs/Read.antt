@@ -293,9 +293,10 @@ module _ (p : Plan) (pos : 0 < p.replicas) (v : Version) (k : Key) (wid : Wid) (
   latest_told : (w : World) → Reach p w → (r : ℕ) → Latest p.firsts (w.replica r) v k wid value s → (before wid.ver v ≡ true) × Source p w k wid value s
   latest_told w q r l =
       let a = latest_is p.firsts (w.replica r) k v l.above in
-      let o = held_source p pos w q r k (latest p.firsts (w.replica r) k v) a.1 in
-      (subst (λ (y : Wid). before y.ver v ≡ true) l.same_wid a.0,
-        subst (λ (y : Bool). Source p w k wid value y) l.sure (subst (λ (y : Wid). Source p w k y value (latest p.firsts (w.replica r) k v).sure) l.same_wid (subst (λ (y : ℤ). Source p w k (latest p.firsts (w.replica r) k v).wid y (latest p.firsts (w.replica r) k v).sure) l.same_value o)))
+      let o = held_source p pos w q r k (latest p.firsts (w.replica r) k v) a.1 in (
+        subst (λ (y : Wid). before y.ver v ≡ true) l.same_wid a.0,
+        subst (λ (y : Bool). Source p w k wid value y) l.sure (subst (λ (y : Wid). Source p w k y value (latest p.firsts (w.replica r) k v).sure) l.same_wid (subst (λ (y : ℤ). Source p w k (latest p.firsts (w.replica r) k v).wid y (latest p.firsts (w.replica r) k v).sure) l.same_value o)),
+      )
 
   told_grows : (w w' : World) → Step p w w' → (before wid.ver v ≡ true) × Source p w k wid value s → (before wid.ver v ≡ true) × Source p w' k wid value s
   told_grows w w' st t = (t.0, source_grows p w w' st k wid value s t.1)

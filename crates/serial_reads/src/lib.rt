@@ -1,9 +1,12 @@
 //! What executions read, toward the law that committed reads are those of a serial run.
 //!
-//! A Note that is sure names a first value or the last write of a committed execution, since what a replica holds as
-//! sure comes from a commit or from a base (`Read`). A client's answers were told by Notes, and it prepares only once
-//! each is sure, so each read of a prepared content names such a write (`Labels`, `Following`, `Noted`). And nothing
-//! committed lies between a read and its reader, since it would be in conflict with the reader (`Between`).
+//! A Note tells a first value, the last write of a committed execution, or a write of a Puts, and only the last may be
+//! unsure, since what a replica holds comes from a commit, a base or a Puts (`Read`). A client's answers were told by
+//! Notes, and it prepares only once each is sure, so each read of a prepared content names a first value or a committed
+//! last write (`Labels`, `Following`, `Noted`). Its value may have come from a Puts of that execution. But what an
+//! execution puts are the first of the writes that it prepares (`Fronts`), so the value is that of the write that the read
+//! names (`Current`). And nothing committed lies between a read and its reader, since it would be in conflict with the
+//! reader (`Between`).
 #![tactic(auto)]
 
 ghost use Rattle.serial_reads.specs.Reads.{SureNotes, NothingBetween};
