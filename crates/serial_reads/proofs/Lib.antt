@@ -1,3 +1,4 @@
+pub mod Holding
 pub mod Read
 pub mod Labels
 pub mod Following
