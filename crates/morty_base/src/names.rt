@@ -1,6 +1,7 @@
 /// A timestamp of multiversion timestamp ordering, compared by `ts` and then `client`. Version 0.0 is that of
 /// first values.
-#[derive(Clone, Copy, Debug, PartialEq, Eq, PartialOrd, Ord, Hash)]
+#[derive(Clone, Copy, Debug)]
+#[derive_where(PartialEq, Eq, PartialOrd, Ord, Hash)]
 pub struct Version {
     pub ts: u64,
     pub client: u32,

@@ -1,5 +1,5 @@
 -- A key is asked at most once, and never after a write of it.
-use Rattle.std.proofs.Common.{◌≡◌, ℕ, Bool, true, false, List, [], ◌∷◌, Option, Some, None, refl, sym, subst, ℤ}
+use Rattle.std.proofs.Common.{◌≡◌, ℕ, Bool, true, false, List, [], ◌∷◌, Option, Some, None, refl, subst, ℤ}
 use Rattle.std.specs.List.{AllByRecursion, IsDistinct}
 use Rattle.morty_base.specs.declared.names.Key.{Key}
 use Rattle.morty_base.specs.Names.{same_key}
@@ -9,7 +9,7 @@ use Rattle.txn_lang.specs.Actions.{program_actions}
 use Rattle.txn_lang.specs.Runs.{Run, replay}
 use Rattle.txn_lang.specs.declared.tree.Block.{Block}
 use Rattle.txn_lang.specs.Laws.{keys_of, AsksOnce}
-use Rattle.txn_lang.proofs.Induction.{outside, replayed, IsKept, holds}
+use Rattle.txn_lang.proofs.Induction.{outside, IsKept, holds}
 
 abbrev Next : Type 0
 Next = ℤ → List Entry → List ℤ → Run

@@ -1,5 +1,5 @@
 -- More answers make a longer run, and each read is of the key that was asked.
-use Rattle.std.proofs.Common.{◌≡◌, ℕ, zero, suc, ◌+◌, ◌≤◌, List, [], ◌∷◌, ◌++◌, take, length, Option, Some, None, refl, ap, sym, ◌∙◌, ℤ, arith}
+use Rattle.std.proofs.Common.{◌≡◌, ℕ, zero, suc, List, [], ◌∷◌, ◌++◌, take, Some, refl, ap, ◌∙◌, ℤ, arith}
 use Rattle.std.specs.Prelude.{slice_get}
 use Rattle.morty_base.specs.declared.names.Key.{Key}
 use Rattle.txn_lang.specs.Tree.{commands}
@@ -7,8 +7,8 @@ use Rattle.txn_lang.specs.Keys.{Entry, entry}
 use Rattle.txn_lang.specs.Actions.{program_actions}
 use Rattle.txn_lang.specs.Runs.{Run, asking, after_read, after_write, after_line, after_begin, replay}
 use Rattle.txn_lang.specs.declared.tree.Block.{Block}
-use Rattle.txn_lang.specs.Laws.{values_of, IsFront, Extends, GrowsWithAnswers, ReadsWhatItAsked}
-use Rattle.txn_lang.proofs.Induction.{outside, replayed, IsKept, holds}
+use Rattle.txn_lang.specs.Laws.{IsFront, Extends, GrowsWithAnswers, ReadsWhatItAsked}
+use Rattle.txn_lang.proofs.Induction.{outside, IsKept, holds}
 
 abbrev Next : Type 0
 Next = ℤ → List Entry → List ℤ → Run

@@ -1,10 +1,10 @@
 -- What holds of each replay, by induction over the actions: the replay is seen as a function of its answers.
-use Rattle.std.proofs.Common.{◌≡◌, List, [], ◌∷◌, Option, Some, None, refl, ℤ, subst}
+use Rattle.std.proofs.Common.{◌≡◌, List, ◌∷◌, Option, Some, None, refl, ℤ}
 use Rattle.morty_base.specs.declared.names.Key.{Key}
 use Rattle.morty_base.specs.declared.names.Ending.{Ending}
 use Rattle.txn_lang.specs.Keys.{Entry, entry, found}
 use Rattle.txn_lang.specs.Actions.{Actions, Begins, Reads, Writes, Prints, Ends}
-use Rattle.txn_lang.specs.Runs.{Run, asking, ended, after_read, after_write, after_line, after_begin, read_by, run, next_answer}
+use Rattle.txn_lang.specs.Runs.{Run, ended, after_write, after_line, after_begin, read_by, run, next_answer}
 
 -- the replay of actions, where these entries are known
 abbrev pub replayed : Actions → List Entry → List ℤ → Run

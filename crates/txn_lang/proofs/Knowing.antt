@@ -1,5 +1,5 @@
 -- What a replay knows of a key: its last own write, else its answer.
-use Rattle.std.proofs.Common.{◌≡◌, ◌⊎◌, ℕ, Bool, true, false, List, [], ◌∷◌, ◌++◌, reverse, Option, Some, None, refl, ap, sym, ◌∙◌, subst, ⊎_elim, ℤ}
+use Rattle.std.proofs.Common.{◌≡◌, ℕ, Bool, true, false, List, [], ◌∷◌, ◌++◌, reverse, Option, Some, None, refl, ap, sym, ◌∙◌, subst, ⊎_elim, ℤ}
 use Rattle.std.proofs.lemmas.List.{reverse-append}
 use Rattle.morty_base.specs.declared.names.Key.{Key}
 use Rattle.morty_base.specs.Names.{same_key}
@@ -10,7 +10,7 @@ use Rattle.txn_lang.specs.Actions.{program_actions}
 use Rattle.txn_lang.specs.Runs.{Run, replay}
 use Rattle.txn_lang.specs.declared.tree.Block.{Block}
 use Rattle.txn_lang.specs.Laws.{or_else, KnowsItsOwn}
-use Rattle.txn_lang.proofs.Induction.{outside, replayed, IsKept, holds}
+use Rattle.txn_lang.proofs.Induction.{outside, IsKept, holds}
 
 abbrev Next : Type 0
 Next = ℤ → List Entry → List ℤ → Run

@@ -6,3 +6,4 @@ pub mod Knowing
 pub mod SerialRuns
 pub mod Resuming
 pub mod Trees
+pub mod Bounded

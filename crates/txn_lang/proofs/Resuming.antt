@@ -1,10 +1,10 @@
 -- A replay that asks goes on with the answer.
-use Rattle.std.proofs.Common.{◌≡◌, ℕ, ◌+◌, List, [], ◌∷◌, ◌++◌, Option, Some, None, refl, ap, sym, ◌∙◌, subst, ℤ, arith, zero-add, add_assoc}
+use Rattle.std.proofs.Common.{◌≡◌, ℕ, List, [], ◌∷◌, ◌++◌, Option, Some, None, ap, sym, ◌∙◌, ℤ, zero-add, add_assoc}
 use Rattle.morty_base.specs.declared.names.Key.{Key}
 use Rattle.txn_lang.specs.Tree.{commands}
 use Rattle.txn_lang.specs.Keys.{Entry, entry, found}
 use Rattle.txn_lang.specs.Actions.{Actions, Begins, Reads, Writes, Prints, Ends, program_actions}
-use Rattle.txn_lang.specs.Runs.{Run, asking, after_read, after_write, after_line, after_begin, read_by, run, next_answer, replay}
+use Rattle.txn_lang.specs.Runs.{Run, asking, after_read, after_write, after_line, after_begin, read_by, next_answer}
 use Rattle.txn_lang.specs.declared.tree.Block.{Block}
 use Rattle.txn_lang.specs.Laws.{joined, GoesOn, GoesOnWithAnswer}
 use Rattle.txn_lang.proofs.Induction.{replayed}

@@ -1,5 +1,5 @@
 -- A serial run is the replay on the values that it read, and the other way round.
-use Rattle.std.proofs.Common.{◌≡◌, ℕ, List, [], ◌∷◌, Option, Some, None, refl, ap, sym, ◌∙◌, ℤ, rules}
+use Rattle.std.proofs.Common.{◌≡◌, ℕ, List, [], ◌∷◌, Option, Some, None, refl, ap, ◌∙◌, ℤ, rules}
 use Rattle.std.specs.Prelude.{IsSome}
 use Rattle.std.specs.List.{All, AllByRecursion}
 use Rattle.std.proofs.lemmas.List.Elements.{All-nil, All-cons, All-head, All-tail}
@@ -7,7 +7,7 @@ use Rattle.morty_base.specs.declared.names.Key.{Key}
 use Rattle.txn_lang.specs.Tree.{commands}
 use Rattle.txn_lang.specs.Keys.{Entry, entry, found, held}
 use Rattle.txn_lang.specs.Actions.{Actions, Begins, Reads, Writes, Prints, Ends, program_actions}
-use Rattle.txn_lang.specs.Runs.{Run, after_read, after_write, after_line, after_begin, read_by, run, next_answer, map_answer, replay, serial_run}
+use Rattle.txn_lang.specs.Runs.{Run, after_read, after_write, after_line, after_begin, read_by, run, next_answer, map_answer}
 use Rattle.txn_lang.specs.declared.tree.Block.{Block}
 use Rattle.txn_lang.specs.Laws.{values_of, ReplaysSerial}
 use Rattle.txn_lang.proofs.Induction.{replayed}

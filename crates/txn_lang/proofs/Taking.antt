@@ -1,14 +1,14 @@
 -- A replay takes its answers in order.
-use Rattle.std.proofs.Common.{◌≡◌, ℕ, zero, suc, List, [], ◌∷◌, ◌++◌, take, length, Option, Some, None, refl, ap, ℤ, rules}
+use Rattle.std.proofs.Common.{◌≡◌, ℕ, List, [], ◌∷◌, ◌++◌, take, length, Some, None, refl, ap, ℤ, rules}
 use Rattle.std.specs.Prelude.{IsSome, IsNone, MatchOption}
 use Rattle.morty_base.specs.declared.names.Key.{Key}
 use Rattle.txn_lang.specs.Tree.{commands}
 use Rattle.txn_lang.specs.Keys.{Entry, entry}
-use Rattle.txn_lang.specs.Actions.{Actions, program_actions}
+use Rattle.txn_lang.specs.Actions.{program_actions}
 use Rattle.txn_lang.specs.Runs.{Run, after_read, after_write, after_line, after_begin, replay}
 use Rattle.txn_lang.specs.declared.tree.Block.{Block}
 use Rattle.txn_lang.specs.Laws.{values_of, TakesAnswers}
-use Rattle.txn_lang.proofs.Induction.{outside, replayed, IsKept, holds}
+use Rattle.txn_lang.proofs.Induction.{outside, IsKept, holds}
 
 abbrev Next : Type 0
 Next = ℤ → List Entry → List ℤ → Run

@@ -1,16 +1,15 @@
 -- The trees of the expressions and statements of each kind.
-use Rattle.std.proofs.Common.{◌≡◌, ℕ, List, [], ◌∷◌, refl, ap, sym, ◌∙◌, ℤ}
+use Rattle.std.proofs.Common.{◌≡◌, ℕ, ap, sym, ◌∙◌, ℤ}
 use Rattle.txn_lang.specs.declared.tree.BinOp.{BinOp}
 use Rattle.txn_lang.specs.declared.tree.Expr.{Expr}
 use Rattle.txn_lang.specs.declared.tree.Expr.TheOpen.{Expr-F}
 use Rattle.txn_lang.specs.declared.tree.Expr.TheFolds.{fold-roll-Expr}
 use Rattle.txn_lang.specs.declared.tree.Expr.TheVariants as expr
-use Rattle.txn_lang.specs.declared.tree.Stmt.{Stmt}
 use Rattle.txn_lang.specs.declared.tree.Stmt.TheOpen.{Stmt-F}
 use Rattle.txn_lang.specs.declared.tree.Stmt.TheFolds.{fold-roll-Stmt, fold-Block, fold_out-Block}
 use Rattle.txn_lang.specs.declared.tree.Stmt.TheVariants as stmt
 use Rattle.txn_lang.specs.declared.tree.Block.{Block}
-use Rattle.txn_lang.specs.Tree.{Term, Num, Local, Neg, Not, Bin, term_step, term, Command, Let, Read, Write, Print, If, Repeat, Abort, Commands, End, Then, command_step, commands_step, command, commands_of, commands}
+use Rattle.txn_lang.specs.Tree.{Term, Num, Local, Neg, Not, Bin, term_step, term, Command, Let, Read, Write, Print, If, Repeat, Abort, Commands, command_step, commands_step, command, commands}
 
 pub term-Num : (n : ℤ) → term (expr.Num n) ≡ Num n
 term-Num n = ap term (sym (expr.rolls-Num n)) ∙ fold-roll-Expr Term term_step (Expr-F.Num n)

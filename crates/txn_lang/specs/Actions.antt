@@ -47,10 +47,13 @@ repeated (suc n) body next = body (repeated n body next)
 abbrev mutual
   pub actions : Command → Next → Next
   actions (Let v e) next locals = Begins (with_value (value e locals) (λ x. next (slice_set locals v x)))
-  actions (Read v table i) next locals = Begins (with_value (value i locals) (λ at. Reads (key_at table at) (λ x. next (slice_set locals v x))))
-  actions (Write table i e) next locals = Begins (with_value (value i locals) (λ at. with_value (value e locals) (λ x. Writes (entry (key_at table at) x) (next locals))))
+  actions (Read v table i) next locals =
+      Begins (with_value (value i locals) (λ at. Reads (key_at table at) (λ x. next (slice_set locals v x))))
+  actions (Write table i e) next locals =
+      Begins (with_value (value i locals) (λ at. with_value (value e locals) (λ x. Writes (entry (key_at table at) x) (next locals))))
   actions (Print e) next locals = Begins (with_value (value e locals) (λ x. Prints x (next locals)))
-  actions (If e a b) next locals = Begins (with_value (value e locals) (λ x. choice (is_true x) (all_actions a next) (all_actions b next) locals))
+  actions (If e a b) next locals =
+      Begins (with_value (value e locals) (λ x. choice (is_true x) (all_actions a next) (all_actions b next) locals))
   actions (Repeat n body) next locals = Begins (repeated n (all_actions body) next locals)
   actions Abort next locals = Begins (Ends ending.Abort)
 

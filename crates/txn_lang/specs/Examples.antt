@@ -4,7 +4,7 @@ use Rattle.morty_base.specs.declared.names.Key.{Key}
 use Rattle.morty_base.specs.declared.names.Ending.TheVariants as ending
 use Rattle.txn_lang.specs.declared.tree.BinOp.TheVariants.{Add, Sub, Lt}
 use Rattle.txn_lang.specs.Tree.{Num, Local, Bin, Let, Read, Write, Print, If, Repeat, Abort, Commands, End, Then}
-use Rattle.txn_lang.specs.Keys.{Entry, entry}
+use Rattle.txn_lang.specs.Keys.{entry}
 use Rattle.txn_lang.specs.Actions.{key_at, program_actions}
 use Rattle.txn_lang.specs.Runs.{Run, run, next_answer, kept}
 
@@ -30,7 +30,8 @@ pay =
 
 -- the first program asks for one place after another, and prints their sum
 pub record FiveReads : Type 0 where
-  pub asks_first : replay_tree five 3 [] ≡ record { reads = []; writes = []; out = []; begun = 4; asks = Some (x_at 1); ending = None; known = [] }
+  pub asks_first : replay_tree five 3 [] ≡
+      record { reads = []; writes = []; out = []; begun = 4; asks = Some (x_at 1); ending = None; known = [] }
   pub asks_fourth : (replay_tree five 3 (pos 1 ∷ pos 2 ∷ pos 30 ∷ [])).asks ≡ Some (x_at 4)
   pub prints_sum : (replay_tree five 3 (pos 1 ∷ pos 2 ∷ pos 30 ∷ pos 4 ∷ pos 5 ∷ [])).out ≡ pos 42 ∷ []
   pub ends : (replay_tree five 3 (pos 1 ∷ pos 2 ∷ pos 30 ∷ pos 4 ∷ pos 5 ∷ [])).ending ≡ Some ending.Done

@@ -48,7 +48,8 @@ abbrev mutual
   IsFormedIn n placed (Read v table i) = IsInTurn n placed v × IsFormedTerm n (with_target n v placed) i
   IsFormedIn n placed (Write table i e) = IsFormedTerm n placed i × IsFormedTerm n placed e
   IsFormedIn n placed (Print e) = IsFormedTerm n placed e
-  IsFormedIn n placed (If e a b) = IsFormedTerm n placed e × IsFilled a × IsFormed n placed a × IsFormed n (placed_after n a placed) b
+  IsFormedIn n placed (If e a b) =
+      IsFormedTerm n placed e × IsFilled a × IsFormed n placed a × IsFormed n (placed_after n a placed) b
   IsFormedIn n placed (Repeat times body) = IsFilled body × IsFormed n placed body
   IsFormedIn n placed Abort = ⊤
 

@@ -1,5 +1,5 @@
 -- The limits of a program.
-use Rattle.std.specs.Prelude.{ℕ, ◌+◌, ◌*◌, ◌<◌, ◌≤◌, max, nat_lt, if◌then◌else◌, ⊤}
+use Rattle.std.specs.Prelude.{ℕ, ◌+◌, ◌*◌, ◌<◌, ◌≤◌, ◌==◌, max, nat_lt, if◌then◌else◌, ⊤}
 use Rattle.txn_lang.specs.declared.tree.BinOp.{BinOp}
 use Rattle.txn_lang.specs.declared.tree.BinOp.TheVariants.{Add, Sub, Mul, Div, Rem, And, Or}
 use Rattle.txn_lang.specs.declared.limits.Kind.{Kind}
@@ -27,14 +27,7 @@ level (Bin op a b) = operator_level op
 
 -- the least level that a left operand has without parentheses; comparisons do not chain
 abbrev pub left_level : BinOp → ℕ
-left_level Or = 1
-left_level And = 2
-left_level Add = 4
-left_level Sub = 4
-left_level Mul = 5
-left_level Div = 5
-left_level Rem = 5
-left_level _ = 4
+left_level op = if operator_level op == 3 then 4 else operator_level op
 
 -- with two parentheses round an operand below that level
 abbrev pub in_parentheses : ℕ → Term → ℕ → ℕ

@@ -30,4 +30,5 @@ reserved_words =
 -- a letter and then letters, digits and underscores, at most 32 bytes, and no reserved word
 unfoldable pub is_name : List ℕ → Bool
 is_name name =
-    begins_with_letter name && list_all is_name_byte name && nat_le (length name) 32 && not (list_any (bytes_eq name) reserved_words)
+    begins_with_letter name && list_all is_name_byte name && nat_le (length name) 32 &&
+    not (list_any (bytes_eq name) reserved_words)

@@ -2,7 +2,7 @@ ghost use Rattle.std.specs.Prelude.{ℕ};
 ghost use Rattle.txn_lang.specs.declared.tree.Block.{Block as BlockValue};
 ghost use Rattle.txn_lang.specs.Runs.{replay};
 ghost use Rattle.txn_lang.specs.Examples.{FiveReads, PayAborts};
-ghost use Rattle.txn_lang.specs.Laws.{TakesAnswers, GrowsWithAnswers, ReadsWhatItAsked, AsksOnce, KnowsItsOwn, GoesOnWithAnswer, ReplaysSerial};
+ghost use Rattle.txn_lang.specs.Laws.{TakesAnswers, GrowsWithAnswers, ReadsWhatItAsked, AsksOnce, KnowsItsOwn, GoesOnWithAnswer, ReplaysSerial, KeepsLimits};
 
 /// A replay is a function of the answers that it takes.
 pub fn replay_takes_answers()
@@ -37,6 +37,11 @@ pub fn replay_goes_on()
 /// A serial run is the replay on the values that it read, and the other way round.
 pub fn replay_is_serial()
     ensures { (body : BlockValue) (n : ℕ) → ReplaysSerial body n }
+{}
+
+/// No run of a program within the limits passes them.
+pub fn runs_keep_limits()
+    ensures { (body : BlockValue) (n : ℕ) → KeepsLimits body n }
 {}
 
 /// What two programs do on some answers.

@@ -12,7 +12,7 @@ use std::marker::Model;
 use thiserror::Error;
 
 /// Why a program is refused.
-#[derive(Debug, Drop, Error)]
+#[derive(Clone, Copy, Debug, PartialEq, Eq, Error)]
 pub enum ProgFault {
     #[error("the program passes a limit")]
     Limit,

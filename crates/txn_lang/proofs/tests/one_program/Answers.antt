@@ -1,9 +1,9 @@
-use Rattle.std.proofs.Common.{◌≡◌, List, [], ◌∷◌, refl, ap, sym, subst, ◌∙◌, pos, arith}
+use Rattle.std.proofs.Common.{◌≡◌, [], ◌∷◌, refl, ap, sym, subst, ◌∙◌, pos, arith}
 use Rattle.std.specs.Prelude.{codes}
 use Rattle.std.specs.List.{IsDistinct}
 use Rattle.txn_lang.specs.declared.tree.Expr.TheVariants as expr
 use Rattle.txn_lang.specs.declared.tree.Stmt.TheVariants as stmt
-use Rattle.txn_lang.specs.Tree.{Num, Let, End, Then, command, commands}
+use Rattle.txn_lang.specs.Tree.{Num, Let, End, Then, commands}
 use Rattle.txn_lang.specs.Names.{reserved_words, is_name}
 use Rattle.txn_lang.specs.Form.{IsWellFormed}
 use Rattle.txn_lang.proofs.Trees.{term-Num, command-Let}

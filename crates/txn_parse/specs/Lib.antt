@@ -1,0 +1,7 @@
+pub mod Symbols
+pub mod Tree
+pub mod Pending
+pub mod Grammar
+pub mod Reading
+pub mod Gives
+pub mod Laws

@@ -1,0 +1,12 @@
+//! The blocks of programs, read from tokens by the grammar: a tree that still has the text's tokens, or the one fault.
+#![tactic(auto)]
+
+mod blocks;
+mod expressions;
+mod pending;
+mod statements;
+mod symbols;
+mod tree;
+
+pub use symbols::{Symbol, symbol_of};
+pub use tree::{RawBlock, RawExpr, RawProg, RawStmt};
