@@ -6,3 +6,4 @@ pub mod Noted
 pub mod Between
 pub mod Fronts
 pub mod Current
+pub mod Replayed
