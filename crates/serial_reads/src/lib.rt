@@ -6,11 +6,12 @@
 //! last write (`Labels`, `Following`, `Noted`). Its value may have come from a Puts of that execution. But what an
 //! execution puts are the first of the writes that it prepares (`Fronts`), so the value is that of the write that the read
 //! names (`Current`). And nothing committed lies between a read and its reader, since it would be in conflict with the
-//! reader (`Between`).
+//! reader (`Between`). Each content that was prepared is a replay of its program (`Replayed`).
 #![tactic(auto)]
 
 ghost use Rattle.serial_reads.specs.Reads.{SureNotes, NothingBetween};
 ghost use Rattle.serial_reads.specs.Programs.{ReadsNoted, ReadsSure, ReadsCurrent};
+ghost use Rattle.serial_reads.specs.Replays.{ContentsReplayed};
 
 /// What a Note calls sure is a first value, or the last write of its key in a committed execution, below the reader.
 pub fn sure_notes()
@@ -35,4 +36,9 @@ pub fn reads_sure()
 /// Each read of a prepared content has the value of the write that it names.
 pub fn reads_current()
     ensures { ReadsCurrent }
+{}
+
+/// Each content that was prepared is what the program of its attempt does on the answers that it got.
+pub fn contents_replayed()
+    ensures { ContentsReplayed }
 {}
