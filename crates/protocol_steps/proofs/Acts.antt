@@ -1,3 +1,6 @@
+use Rattle.morty_base.specs.declared.names.Ending.{Ending}
+use Rattle.protocol.specs.Client.{content}
+use Rattle.std.proofs.Common.{Some}
 use Rattle.morty_base.specs.declared.names.Exec.{Exec}
 use Rattle.std.proofs.Common.{ℤ, ◌++◌}
 use Rattle.msg.specs.declared.Write.{Write}
@@ -111,11 +114,11 @@ pub record Continues (c c' : ClientState) : Type 0 where
   pub answers : values c'.answers ≡ values c.answers ++ more
 
 -- what an act does to the writes of the execution under way: its answers only grow, what it puts are its writes, and
--- what it prepares has these writes or none
+-- what it prepares is its content, once it has ended
 pub record WriteStep (r : Rules) (c c' : ClientState) (sent : List Body) : Type 0 where
   pub grows : IsRunning c'.phase → Continues c c' ⊎ IsEarlier c.exec c'.exec
   pub puts : (x : Exec) (ws : List Write) → IsIn (Puts x ws) sent → (x ≡ c'.exec) × IsRunning c'.phase × (ws ≡ (walk r c').writes)
-  pub prepares : (x : Exec) (k : Content) → IsIn (Prepare x k) sent → (x ≡ c.exec) × IsRunning c.phase × ((k.writes ≡ (walk r c).writes) ⊎ (k.writes ≡ []))
+  pub prepares : (x : Exec) (k : Content) → IsIn (Prepare x k) sent → (x ≡ c.exec) × IsRunning c.phase × ((e : Ending) × (k ≡ content r c e) × ((walk r c).ending ≡ Some e))
 
 -- acts one after another
 pub data Chain (r : Rules) (Got : NodeId → Body → Type 0) (c : ClientState) : ClientState → List Body → Type 0 where

@@ -62,12 +62,12 @@ module _ (r : Rules) (Got : NodeId → Body → Type 0) where
 
   settle_chain : (c0 c : ClientState) (sent : List Body) → IsRunning c.phase → Chain r Got c0 c sent → Chain r Got c0 (prepare_if_ready r c sent).state (prepare_if_ready r c sent).sent
   unfolding prepare_if_ready
-  settle_chain c0 c sent run s = go (walk r c).ending (list_all (λ a. a.label.sure) c.answers)
+  settle_chain c0 c sent run s = go (walk r c).ending refl (list_all (λ a. a.label.sure) c.answers)
     where
-      go : (e : Option Ending) (t : Bool) → Chain r Got c0 (prepare_when r c sent e t).state (prepare_when r c sent e t).sent
-      go (Some e) true = Then c _ sent (Prepare c.exec (content r c e) ∷ []) s (Prepares (content r c e) run refl refl refl refl) (Keeps refl refl refl (λ e i. i) (λ b f. cc) (λ u. inl (running_under_way c.phase run))) (prepares_writes r c _ e run (λ z. z))
-      go (Some e) false = s
-      go None t = s
+      go : (e : Option Ending) → (walk r c).ending ≡ e → (t : Bool) → Chain r Got c0 (prepare_when r c sent e t).state (prepare_when r c sent e t).sent
+      go (Some e) q true = Then c _ sent (Prepare c.exec (content r c e) ∷ []) s (Prepares (content r c e) run refl refl refl refl) (Keeps refl refl refl (λ e i. i) (λ b f. cc) (λ u. inl (running_under_way c.phase run))) (prepares_writes r c _ e q run (λ z. z))
+      go (Some e) q false = s
+      go None q t = s
 
   next_chain : (c0 c : ClientState) (sent : List Body) → (d : Decision) × IsIn d c.decisions × (d.exec ≡ c.exec) → IsIn (record { exec = c.exec; choice = Abandon }) c.decisions → Chain r Got c0 (ended c Live) sent → Chain r Got c0 (next_execution r c sent).state (next_execution r c sent).sent
   unfolding next_execution rewound relabelled

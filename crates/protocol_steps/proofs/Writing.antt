@@ -78,13 +78,17 @@ other_question x (Some k) b (inl z) = subst IsOther (sym z) tt
 other_question x (Some k) b (inr z) = absurd z
 
 -- its content is prepared
-pub prepares_writes : (r : Rules) (c c' : ClientState) (e : Ending) → IsRunning c.phase → (IsRunning c'.phase → ⊥) → WriteStep r c c' (Prepare c.exec (content r c e) ∷ [])
-unfolding content
-prepares_writes r c c' e run n = record {
+pub prepares_writes : (r : Rules) (c c' : ClientState) (e : Ending) → (walk r c).ending ≡ Some e → IsRunning c.phase → (IsRunning c'.phase → ⊥) → WriteStep r c c' (Prepare c.exec (content r c e) ∷ [])
+prepares_writes r c c' e q run n = record {
   grows = λ z. absurd (n z);
   puts = λ x ws i. elim i [ inl z ↦ cc | inr z ↦ absurd z ];
-  prepares = λ x k i. elim i [ inl z ↦ (let a : x ≡ c.exec = cc in let b : k ≡ content r c e = cc in (a, run, subst (λ (l : Content). (l.writes ≡ (walk r c).writes) ⊎ (l.writes ≡ [])) (sym b) (kept (is_done e)))) | inr z ↦ absurd z ];
+  prepares = λ x k i. elim i [ inl z ↦ (let a : x ≡ c.exec = cc in let b : k ≡ content r c e = cc in (a, run, (e, b, q))) | inr z ↦ absurd z ];
 }
+
+-- a content keeps all writes or none
+pub content_keeps : (r : Rules) (c : ClientState) (e : Ending) → ((content r c e).writes ≡ (walk r c).writes) ⊎ ((content r c e).writes ≡ [])
+unfolding content
+content_keeps r c e = kept (is_done e)
   where
     kept : (t : Bool) → (cond t (walk r c).writes [] ≡ (walk r c).writes) ⊎ (cond t (walk r c).writes [] ≡ [])
     kept true = inl refl

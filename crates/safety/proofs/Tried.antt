@@ -34,12 +34,12 @@ use Rattle.safety.proofs.Cuts.{CommitSent, apart_locks}
 use Rattle.safety.proofs.Agreed.{safe_reach}
 use Rattle.safety.proofs.Based.{committed_sent}
 
-abbrev IsFalling : List Attempt → Type 0
+abbrev pub IsFalling : List Attempt → Type 0
 IsFalling [] = Unit {0}
 IsFalling (a ∷ more) = ((b : Attempt) → IsIn b more → b.ver.ts < a.ver.ts) × IsFalling more
 
 -- what a client's record says of its tries
-record TryRec (s : ClientState) : Type 0 where
+pub record TryRec (s : ClientState) : Type 0 where
   pub begun : (b : Attempt) → IsIn b s.attempts → b.ver ≡ s.exec.ver → b.txn ≡ s.begun
   pub bounded : (b : Attempt) → IsIn b s.attempts → (b.ver.ts ≤ s.exec.ver.ts) × (b.txn ≤ s.begun)
   pub aborted : s.phase ≡ Between → IsAborted s.fate → IsIn (record { exec = s.exec; choice = Abandon }) s.decisions
@@ -83,7 +83,7 @@ client_tries p w w' (Warden_acts s) c = inl (ap (λ f. f c) s.client)
 client_tries p w w' (Client_acts s) c = subst (λ (f : ℕ → ClientState). (f c ≡ w.client c) ⊎ TryStep (w.client c) (f c)) (sym s.client)
     (at_cases (λ (z : ClientState). (z ≡ w.client c) ⊎ TryStep (w.client c) z) s.c s.state w.client c (λ e. inr (subst (λ j. TryStep (w.client j) s.state) (sym e) s.tries)) (inl refl))
 
-try_rec : (p : Plan) (w : World) → Reach p w → (c : ℕ) → TryRec (w.client c)
+pub try_rec : (p : Plan) (w : World) → Reach p w → (c : ℕ) → TryRec (w.client c)
 try_rec p _ Begins c = record { begun = λ b i. absurd i; bounded = λ b i. absurd i; aborted = λ z f. absurd f; has = λ z. elim z [ inl y ↦ absurd y | inr y ↦ absurd y ]; falling = tt }
 try_rec p _ (Next w w' q st) c = go (client_tries p w w' st c) (try_rec p w q c)
   where
@@ -158,7 +158,7 @@ module _ (p : Plan) (w w' : World) (q : Reach p w) (st : Step p w w') (c : ℕ) 
       go (inr (Next_exec v b a m k run)) = m d i
       go (inr (Next_try z l a m k run)) = m d i
 
-  kept_attempt : (a : Attempt) → IsIn a (w.client c).attempts → IsIn a (w'.client c).attempts
+  pub kept_attempt : (a : Attempt) → IsIn a (w.client c).attempts → IsIn a (w'.client c).attempts
   kept_attempt d i = go (client_tries p w w' st c)
     where
       go : (w'.client c ≡ w.client c) ⊎ TryStep (w.client c) (w'.client c) → IsIn d (w'.client c).attempts

@@ -56,7 +56,7 @@ module _ (p : Plan) (pos : 0 < p.replicas) (w : World) (q : Reach p w) (f : Fron
       go (inr e) = absurd (subst (λ (vs : List Write). IsIn (record { key = k; wid = wid; value = other }) (entries_of x 1 vs)) e last.entry)
       go (inl front) =
           let mine : IsIn (record { key = k; wid = wid; value = value }) (entries_of x 1 l.writes) = subst (λ (z : Exec). IsIn (record { key = k; wid = wid; value = value }) (entries_of z 1 l.writes)) (sym same)
-                  (subst (λ (vs : List Write). IsIn (record { key = k; wid = wid; value = value }) (entries_of y 1 vs)) (sym front.1) (entries_front y 1 ws front.0 (record { key = k; wid = wid; value = value }) i)) in
+          (subst (λ (vs : List Write). IsIn (record { key = k; wid = wid; value = value }) (entries_of y 1 vs)) (sym front.1) (entries_front y 1 ws front.0 (record { key = k; wid = wid; value = value }) i)) in
           let one = entry_one x 1 l.writes (record { key = k; wid = wid; value = other }) (record { key = k; wid = wid; value = value }) last.entry mine refl in
           subst (λ (v : ℤ). IsSure p w k wid v) (ap (λ (d : BaseEntry). d.value) one) (Last_write x l c u last)
 

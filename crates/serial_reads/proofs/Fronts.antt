@@ -16,6 +16,7 @@ use Rattle.protocol.proofs.Members.{at_cases, at_same}
 use Rattle.protocol_steps.specs.Executions.{IsEarlier}
 use Rattle.protocol_steps.proofs.Acts.{IsRunning, Continues, WriteStep}
 use Rattle.protocol_steps.proofs.Phases.{running_under_way}
+use Rattle.protocol_steps.proofs.Writing.{content_keeps}
 use Rattle.protocol_steps.proofs.Reach.{Step, Reach, ClientActs, GotAt}
 use Rattle.protocol_steps.proofs.Reach.Step.{Stands, Client_acts, Replica_acts, Warden_acts}
 use Rattle.protocol_steps.proofs.Reach.From.{Begins, Next}
@@ -124,17 +125,17 @@ module _ (p : Plan) (grow : (c n : ℕ) → WritesGrow (walk_at (slice_get (rule
       fresh z (Old v) = s.prepared y ws k z v
       fresh z (Of_replica r f) = absurd f
       fresh z (Of_warden j a i e f) = absurd f
-      fresh z (Of_client cs i) = elim here.2 [ inl e ↦ inl (subst (λ (l : List Write). IsFront ws l) (sym e) whole) | inr e ↦ inr e ]
+      fresh z (Of_client cs i) = elim here [ inl e ↦ inl (subst (λ (l : List Write). IsFront ws l) (sym e) whole) | inr e ↦ inr e ]
         where
-          here : (y ≡ (w.client cs.c).exec) × IsRunning (w.client cs.c).phase × ((k.writes ≡ (walk (rules p cs.c) (w.client cs.c)).writes) ⊎ (k.writes ≡ []))
-          here = cs.writes.prepares y k i
+          here : (k.writes ≡ (walk (rules p cs.c) (w.client cs.c)).writes) ⊎ (k.writes ≡ [])
+          here = let e = (cs.writes.prepares y k i).2 in subst (λ (l : Content). (l.writes ≡ (walk (rules p cs.c) (w.client cs.c)).writes) ⊎ (l.writes ≡ [])) (sym e.1) (content_keeps (rules p cs.c) (w.client cs.c) e.0)
 
           mine : y.ver.client ≡ cs.c
           mine = ap (λ (x : Exec). x.ver.client) (cs.writes.prepares y k i).0 ∙ (rec_reach p w q cs.c).own (running_under_way (w.client cs.c).phase (cs.writes.prepares y k i).1)
 
           whole : IsFront ws (walk (rules p cs.c) (w.client cs.c)).writes
           whole = subst (λ (j : ℕ). IsFront ws (walk (rules p j) (w.client j)).writes) mine
-              (s.front y ws z (subst (λ (j : ℕ). y ≡ (w.client j).exec) (sym mine) here.0) (subst (λ (j : ℕ). IsRunning (w.client j).phase) (sym mine) here.1))
+              (s.front y ws z (subst (λ (j : ℕ). y ≡ (w.client j).exec) (sym mine) (cs.writes.prepares y k i).0) (subst (λ (j : ℕ). IsRunning (w.client j).phase) (sym mine) (cs.writes.prepares y k i).1))
 
       go : Origin p w w' (Puts y ws) → IsFront ws k.writes ⊎ (k.writes ≡ [])
       go (Old z) = fresh z (origin p w w' q st _ u)

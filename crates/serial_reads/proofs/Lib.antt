@@ -1,3 +1,4 @@
+pub mod Holding
 pub mod Read
 pub mod Labels
 pub mod Following
@@ -5,3 +6,4 @@ pub mod Noted
 pub mod Between
 pub mod Fronts
 pub mod Current
+pub mod Replayed

@@ -1,13 +1,17 @@
 //! What executions read, toward the law that committed reads are those of a serial run.
 //!
-//! A Note that is sure names a first value or the last write of a committed execution, since what a replica holds as
-//! sure comes from a commit or from a base (`Read`). A client's answers were told by Notes, and it prepares only once
-//! each is sure, so each read of a prepared content names such a write (`Labels`, `Following`, `Noted`). And nothing
-//! committed lies between a read and its reader, since it would be in conflict with the reader (`Between`).
+//! A Note tells a first value, the last write of a committed execution, or a write of a Puts, and only the last may be
+//! unsure, since what a replica holds comes from a commit, a base or a Puts (`Read`). A client's answers were told by
+//! Notes, and it prepares only once each is sure, so each read of a prepared content names a first value or a committed
+//! last write (`Labels`, `Following`, `Noted`). Its value may have come from a Puts of that execution. But what an
+//! execution puts are the first of the writes that it prepares (`Fronts`), so the value is that of the write that the read
+//! names (`Current`). And nothing committed lies between a read and its reader, since it would be in conflict with the
+//! reader (`Between`). Each content that was prepared is a replay of its program (`Replayed`).
 #![tactic(auto)]
 
 ghost use Rattle.serial_reads.specs.Reads.{SureNotes, NothingBetween};
 ghost use Rattle.serial_reads.specs.Programs.{ReadsNoted, ReadsSure, ReadsCurrent};
+ghost use Rattle.serial_reads.specs.Replays.{ContentsReplayed};
 
 /// What a Note calls sure is a first value, or the last write of its key in a committed execution, below the reader.
 pub fn sure_notes()
@@ -32,4 +36,9 @@ pub fn reads_sure()
 /// Each read of a prepared content has the value of the write that it names.
 pub fn reads_current()
     ensures { ReadsCurrent }
+{}
+
+/// Each content that was prepared is what the program of its attempt does on the answers that it got.
+pub fn contents_replayed()
+    ensures { ContentsReplayed }
 {}
