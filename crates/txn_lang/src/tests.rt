@@ -141,7 +141,8 @@ fn canonical_tokens(rt: HostRuntime) -> Result<(), Fail> {
         (BinOp::Div, BinOp::Mul, true, 5),
     ] {
         let e = nested(rt.alloc(), outer, inner, on_left)?;
-        assert_eq!(rt; tokens(&e), want, "{outer:?} {inner:?} {on_left}");
+        let twin = e.copy(rt.alloc())?;
+        assert_eq!(rt; tokens(&twin), want, "{outer:?} {inner:?} {on_left}");
         let minus = Expr::Neg(Box::new(rt.alloc(), e)?);
         assert_eq!(rt; tokens(&minus), want + 3, "minus {outer:?} {inner:?}");
         let twice = Expr::Not(Box::new(rt.alloc(), minus)?);

@@ -1,5 +1,8 @@
-use morty_base::List;
+ghost use Rattle.std.specs.Prelude.{◌≡◌, IfOk};
+
+use morty_base::{List, NoMemory};
 use sqlite_items::Boxed as Box;
+use std::alloc::Global;
 
 /// An operator between two operands.
 #[derive(Clone, Copy, Debug, PartialEq, Eq)]
@@ -27,6 +30,24 @@ pub enum Expr {
     Neg(Box<Expr>),
     Not(Box<Expr>),
     Bin(BinOp, Box<Expr>, Box<Expr>),
+}
+
+impl Expr {
+    pub fn copy(&self, alloc: Global) -> Result<Expr, NoMemory>
+        ensures { IfOk result (λ e. e ≡ self.now) }
+    {
+        Ok(match self {
+            Expr::Num(n) => Expr::Num(*n),
+            Expr::Local(v) => Expr::Local(*v),
+            Expr::Neg(a) => Expr::Neg(Box::new(alloc, a.get().copy(alloc)?)?),
+            Expr::Not(a) => Expr::Not(Box::new(alloc, a.get().copy(alloc)?)?),
+            Expr::Bin(op, a, b) => {
+                let a = Box::new(alloc, a.get().copy(alloc)?)?;
+                let b = Box::new(alloc, b.get().copy(alloc)?)?;
+                Expr::Bin(*op, a, b)
+            }
+        })
+    }
 }
 
 /// A statement: `Let` has the local and its value, `Read` the local, the table and the index, `Write` the table,
