@@ -1,3 +1,6 @@
 pub mod Standing
 pub mod Deriving
 pub mod Loops
+pub mod Finding
+pub mod FindingExpr
+pub mod FindingStmts
