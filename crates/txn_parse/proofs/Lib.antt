@@ -4,3 +4,5 @@ pub mod Loops
 pub mod Finding
 pub mod FindingExpr
 pub mod FindingStmts
+pub mod Freeing
+pub mod FindingBlocks
