@@ -196,3 +196,84 @@ after_separator last n lim stmt stmt' front c d b sep rest (closes_behind s y) m
 after_separator last n lim stmt stmt' front c d b sep rest (parts s) more =
     with_stmt_answers last c (all_stmts last stmt') (λ ms. Closed lim (front ++ lexeme Semicolon s ∷ ms)) (Closed lim) (λ ms. Closed Free (front ++ lexeme Semicolon s ∷ ms)) (Closed Free) rest (stmts_at last stmt n rest)
     (λ ms cs g. closed_more lim front c s d ms cs g) (λ ms cs h. closed_more Free front c s (free_stmt d) ms cs h) more
+
+abbrev StmtsOk : ℕ → Limits → Reader Command → Reader Command → ℕ → Type 0
+StmtsOk last lim stmt stmt' n = (ls : List Lexeme) → length ls < n → Answers last (all_stmts last stmt') (Closed lim) (Closed Free) ls (stmts_at last stmt n ls)
+
+behind_shorter : (front rest ls : List Lexeme) (n : ℕ) → length ls < suc n → ls ≡ front ++ rest → length rest < suc n
+behind_shorter front rest ls n few split =
+    let whole = ap length split in
+    let len = length-append front rest in
+    omega (arith, few, whole, len)
+
+some_sep : (sep : List Lexeme) (b : Bool) → IsSep sep b → 0 < length sep
+some_sep sep b (closes y) = omega arith
+some_sep sep b (closes_behind s y) = omega arith
+some_sep sep b (parts s) = omega arith
+
+shorter_by : (sep rest rest2 : List Lexeme) (b : Bool) (n : ℕ) → length rest < suc n → IsSep sep b → rest ≡ sep ++ rest2 → length rest2 < n
+shorter_by sep rest rest2 b n few s split =
+    let whole = ap length split in
+    let len = length-append sep rest2 in
+    let some = some_sep sep b s in
+    omega (arith, few, whole, len, some)
+
+behind_answers : (last n : ℕ) (lim : Limits) (stmt stmt' : Reader Command) → StmtsOk last lim stmt stmt' n → (c : Command) (front rest : List Lexeme) → length rest < suc n → IsStmt lim front c →
+    Answers last (λ ms. behind_stmt last stmt' (c, ms)) (λ ms. Closed lim (front ++ ms)) (λ ms. Closed Free (front ++ ms)) rest
+    (separator_at last rest >>= (λ m. cond m.0 (with_stmt c (stmts_at last stmt n m.1)) (Ok (Then c End, m.1))))
+behind_answers last n lim stmt stmt' ok c front rest few d =
+    then_answers last (separator_at last) IsSep IsSep (λ m. cond m.0 (with_stmt c (stmts_at last stmt n m.1)) (Ok (Then c End, m.1))) (λ m. cond m.0 (with_stmt c (all_stmts last stmt' m.1)) (Ok (Then c End, m.1)))
+    (λ ms. Closed lim (front ++ ms)) (λ ms. Closed Free (front ++ ms)) rest (separator_at last rest) (separator_answers last rest)
+    (λ b sep s. separator_sample front c (free_stmt d) b sep s)
+    (λ b sep rest2 split s. after_separator last n lim stmt stmt' front c d b sep rest2 s (ok rest2 (shorter_by sep rest rest2 b n few s split)))
+
+pub stmts_answers : (last : ℕ) (lim : Limits) (stmt stmt' : Reader Command) → ((ls : List Lexeme) → Answers last stmt' (IsStmt lim) (IsStmt Free) ls (stmt ls)) → Shrinks stmt' → (n : ℕ) → StmtsOk last lim stmt stmt' n
+unfolding stmts_at
+stmts_answers last lim stmt stmt' ok shrink zero ls few = absurd (omega (arith, few))
+stmts_answers last lim stmt stmt' ok shrink (suc n) ls few =
+    answers_as last (all_stmts last stmt') (λ ms. stmt' ms >>= behind_stmt last stmt') (Closed lim) (Closed lim) (Closed Free) (Closed Free) ls
+    (stmt ls >>= (λ c. separator_at last c.1 >>= (λ m. cond m.0 (with_stmt c.0 (stmts_at last stmt n m.1)) (Ok (Then c.0 End, m.1)))))
+    (unfold_stmts last stmt' shrink) (λ ms cs g. g) (λ ms cs h. h)
+    (then_answers last stmt' (IsStmt lim) (IsStmt Free) (λ c. separator_at last c.1 >>= (λ m. cond m.0 (with_stmt c.0 (stmts_at last stmt n m.1)) (Ok (Then c.0 End, m.1)))) (behind_stmt last stmt') (Closed lim) (Closed Free) ls (stmt ls) (ok ls)
+      (λ c front h. (lexeme CloseBlock some_token ∷ [], Then c End, closed_by Free front c some_token h))
+      (λ c front rest split d. behind_answers last n lim stmt stmt' (stmts_answers last lim stmt stmt' ok shrink n) c front rest (behind_shorter front rest ls n few split) d))
+
+deep_answers : (last R d : ℕ) (ls : List Lexeme) → (Q : Reader Commands) → ((ms : List Lexeme) (e : TextFault) → take_at last OpenBlock ms ≡ Err e → Q ms ≡ Err e) →
+    Answers last Q (IsBlock (Within R d)) (IsBlock Free) ls (block_at last R zero ls)
+unfolding block_at
+deep_answers last R d [] Q faults =
+    bad_here last Q (IsBlock (Within R d)) (IsBlock Free) [] (lexeme OpenBlock some_token ∷ (lexeme Abort some_token ∷ [] ++ lexeme CloseBlock some_token ∷ []), Then Stop End, some_block)
+    (λ more same. ends_same (λ ms. Q ms ≡ Err (syntax_at last ms)) more same (faults [] (syntax_at last []) refl))
+deep_answers last R d (l ∷ ls) Q faults =
+    cond_both (is l.symbol OpenBlock) (Ok (l.token, ls)) (Err (syntax_at last (l ∷ ls))) (λ r. Answers last Q (IsBlock (Within R d)) (IsBlock Free) (l ∷ ls) (r >>= (λ x. Err (At x.0.line fault.Deep))))
+    (λ here. inr (record {
+      front = [];
+      l = l;
+      rest = ls;
+      split = refl;
+      place = inl refl;
+      begun = subst (λ s. Begins (IsBlock Free) (lexeme s l.token ∷ [])) (sym (plain_open_block l.symbol here))
+        ( lexeme Abort some_token ∷ [] ++ lexeme CloseBlock some_token ∷ [], Then Stop End
+        , braced Free l.token some_token (lexeme Abort some_token ∷ []) (Then Stop End) tt (last_one Free (lexeme Abort some_token ∷ []) Stop (aborts Free some_token)) );
+    }))
+    (λ other. bad_here last Q (IsBlock (Within R d)) (IsBlock Free) (l ∷ ls) (lexeme OpenBlock some_token ∷ (lexeme Abort some_token ∷ [] ++ lexeme CloseBlock some_token ∷ []), Then Stop End, some_block)
+      (λ more same. begins_same (λ ms. Q ms ≡ Err (syntax_at last ms)) l ls more same (λ ms. faults (l ∷ ms) (syntax_at last (l ∷ ms)) (cond-false (is l.symbol OpenBlock) _ _ other))))
+
+pub block_answers : (last R R' : ℕ) → R ≤ R' → (d d' : ℕ) → d ≤ d' → ReadsBlocks last (Within R d) (block_at last R d) (block_at last R' d')
+unfolding block_at
+block_answers last R R' rooms zero d' deep ls = deep_answers last R zero ls (block_at last R' d') (λ ms e is. brace_err last R' d' ms e is)
+block_answers last R R' rooms (suc d) zero deep ls = absurd (omega (arith, deep))
+block_answers last R R' rooms (suc d) (suc d') deep ls =
+    let below : d ≤ d' = omega (arith, deep) in
+    let stmt = stmt_at last R (block_at last R d) in
+    let stmt' = stmt_at last R' (block_at last R' d') in
+    let ok = stmt_answers last R d R' (block_at last R d) (block_at last R' d') rooms (block_answers last R R' rooms d d' below) (λ ms b g. free_block g) in
+    let own = stmt_answers last R' d' R' (block_at last R' d') (block_at last R' d') (omega arith) (block_answers last R' R' (omega arith) d' d' (omega arith)) (λ ms b g. free_block g) in
+    take_then last OpenBlock (λ x. stmts_at last stmt (length x.1 + 1) x.1) (λ x. all_stmts last stmt' x.1) (IsBlock (Within R (suc d))) (IsBlock Free) ls plain_open_block
+    (λ t. (lexeme Abort some_token ∷ [] ++ lexeme CloseBlock some_token ∷ [], Then Stop End, braced Free t some_token (lexeme Abort some_token ∷ []) (Then Stop End) tt (last_one Free (lexeme Abort some_token ∷ []) Stop (aborts Free some_token))))
+    (λ t rest.
+      answers_as last (all_stmts last stmt') (all_stmts last stmt') (λ ms. IsBlock (Within R (suc d)) (lexeme OpenBlock t ∷ ms)) (Closed (Within R d)) (λ ms. IsBlock Free (lexeme OpenBlock t ∷ ms)) (Closed Free) rest (stmts_at last stmt (length rest + 1) rest)
+      (λ ms. refl)
+      (λ ms cs g. subst (λ x. IsBlock (Within R (suc d)) (lexeme OpenBlock t ∷ x) cs) (sym g.2) (braced (Within R (suc d)) t g.1 g.0 cs tt g.3))
+      (λ ms cs h. subst (λ x. IsBlock Free (lexeme OpenBlock t ∷ x) cs) (sym h.2) (braced Free t h.1 h.0 cs tt h.3))
+      (stmts_answers last (Within R d) stmt stmt' ok (shrinks last (Within R' d') stmt' own) (length rest + 1) rest (omega arith)))

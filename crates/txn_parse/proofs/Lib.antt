@@ -6,3 +6,4 @@ pub mod FindingExpr
 pub mod FindingStmts
 pub mod Freeing
 pub mod FindingBlocks
+pub mod DerivingBlocks
