@@ -27,15 +27,15 @@ stays last zero s l ls halts = cond-false (goes_on s l.symbol) _ _ halts
 stays last (suc k) s l ls halts = cond-false (goes_on s l.symbol) _ _ halts
 
 -- where the expression does not go on
-ended_answers : (last R d room' : ℕ) (ls : List Lexeme) (s : State) (pre : List Lexeme) (k : ℕ) (o : Option Term) → ended s ≡ o → StandsState s pre → length pre ≤ R →
-    ((more : List Lexeme) → expr_at last room' (pre ++ more) ≡ expr_from last more k s) →
-    ((more : List Lexeme) → SameFirst ls more → expr_from last more k s ≡ ended_at last (ended s) more) →
-    Answers last (expr_at last room') (IsOutermost (Within R d)) (IsOutermost Free) (pre ++ ls) (ended_at last o ls)
+ended_answers : {J : Type 0} (last R d : ℕ) (room' : J → ℕ) (ls : List Lexeme) (s : State) (pre : List Lexeme) (k : J → ℕ) (o : Option Term) → ended s ≡ o → StandsState s pre → length pre ≤ R →
+    ((j : J) (more : List Lexeme) → expr_at last (room' j) (pre ++ more) ≡ expr_from last more (k j) s) →
+    ((j : J) (more : List Lexeme) → SameFirst ls more → expr_from last more (k j) s ≡ ended_at last (ended s) more) →
+    Answers last (λ j. expr_at last (room' j)) (IsOutermost (Within R d)) (IsOutermost Free) (pre ++ ls) (ended_at last o ls)
 ended_answers last R d room' ls s pre k (Some e) is stands short again stop = record {
   front = pre;
   split = refl;
   derived = record { short = short; derived = ended_stands s pre e stands is };
-  again = λ more same. again more ∙ stop more same ∙ ap (λ o. ended_at last o more) is;
+  again = λ j more same. again j more ∙ stop j more same ∙ ap (λ o. ended_at last o more) is;
 }
 ended_answers last R d room' ls s pre k None is stands short again stop = inl (record {
   front = pre;
@@ -43,37 +43,36 @@ ended_answers last R d room' ls s pre k None is stands short again stop = inl (r
   split = refl;
   place = refl;
   begun = begins_with pre (state_completes s pre stands);
-  again = λ more same. again more ∙ stop more same ∙ ap (λ o. ended_at last o more) is;
+  again = λ j more same. again j more ∙ stop j more same ∙ ap (λ o. ended_at last o more) is;
 })
 
-stopped_answers : (last R d room' : ℕ) (l : Lexeme) (ls : List Lexeme) (s : State) (pre : List Lexeme) (k : ℕ) → goes_on s l.symbol ≡ false → StandsState s pre → length pre ≤ R →
-    ((more : List Lexeme) → expr_at last room' (pre ++ more) ≡ expr_from last more k s) →
-    Answers last (expr_at last room') (IsOutermost (Within R d)) (IsOutermost Free) (pre ++ l ∷ ls) (ended_at last (ended s) (l ∷ ls))
+stopped_answers : {J : Type 0} (last R d : ℕ) (room' : J → ℕ) (l : Lexeme) (ls : List Lexeme) (s : State) (pre : List Lexeme) (k : J → ℕ) → goes_on s l.symbol ≡ false → StandsState s pre → length pre ≤ R →
+    ((j : J) (more : List Lexeme) → expr_at last (room' j) (pre ++ more) ≡ expr_from last more (k j) s) →
+    Answers last (λ j. expr_at last (room' j)) (IsOutermost (Within R d)) (IsOutermost Free) (pre ++ l ∷ ls) (ended_at last (ended s) (l ∷ ls))
 stopped_answers last R d room' l ls s pre k halts stands short again =
     ended_answers last R d room' (l ∷ ls) s pre k (ended s) refl stands short again
-    (λ more same. begins_same (λ ms. expr_from last ms k s ≡ ended_at last (ended s) ms) l ls more same (λ ms. stays last k s l ms halts))
+    (λ j more same. begins_same (λ ms. expr_from last ms (k j) s ≡ ended_at last (ended s) ms) l ls more same (λ ms. stays last (k j) s l ms halts))
 
-expr_answers_from : (last R d room' : ℕ) (ls : List Lexeme) (s : State) (pre : List Lexeme) (room k : ℕ) → StandsState s pre → length pre + room ≡ R → room ≤ k →
-    ((more : List Lexeme) → expr_at last room' (pre ++ more) ≡ expr_from last more k s) →
-    Answers last (expr_at last room') (IsOutermost (Within R d)) (IsOutermost Free) (pre ++ ls) (expr_from last ls room s)
+expr_answers_from : {J : Type 0} (last R d : ℕ) (room' : J → ℕ) (ls : List Lexeme) (s : State) (pre : List Lexeme) (room : ℕ) (k : J → ℕ) → StandsState s pre → length pre + room ≡ R → ((j : J) → room ≤ k j) →
+    ((j : J) (more : List Lexeme) → expr_at last (room' j) (pre ++ more) ≡ expr_from last more (k j) s) →
+    Answers last (λ j. expr_at last (room' j)) (IsOutermost (Within R d)) (IsOutermost Free) (pre ++ ls) (expr_from last ls room s)
 unfolding expr_from
 expr_answers_from last R d room' [] s pre room k stands len below again =
     ended_answers last R d room' [] s pre k (ended s) refl stands (omega (arith, len)) again
-    (λ more same. ends_same (λ ms. expr_from last ms k s ≡ ended_at last (ended s) ms) more same (stays_at_end last k s))
+    (λ j more same. ends_same (λ ms. expr_from last ms (k j) s ≡ ended_at last (ended s) ms) more same (stays_at_end last (k j) s))
 expr_answers_from last R d room' (l ∷ ls) s pre zero k stands len below again =
-    cond_both (goes_on s l.symbol) (Err (At l.token.line fault.LongExpression)) (ended_at last (ended s) (l ∷ ls)) (Answers last (expr_at last room') (IsOutermost (Within R d)) (IsOutermost Free) (pre ++ l ∷ ls))
+    cond_both (goes_on s l.symbol) (Err (At l.token.line fault.LongExpression)) (ended_at last (ended s) (l ∷ ls)) (Answers last (λ j. expr_at last (room' j)) (IsOutermost (Within R d)) (IsOutermost Free) (pre ++ l ∷ ls))
     (λ goes. inr (record { front = pre; l = l; rest = ls; split = refl; place = inr refl; begun = begins_with (pre ++ l ∷ []) (state_completes (step s l) (pre ++ l ∷ []) (step_stands s l pre stands goes)) }))
     (λ halts. stopped_answers last R d room' l ls s pre k halts stands (omega (arith, len)) again)
 expr_answers_from last R d room' (l ∷ ls) s pre (suc room) k stands len below again =
-    cond_both (goes_on s l.symbol) (expr_from last ls room (step s l)) (ended_at last (ended s) (l ∷ ls)) (Answers last (expr_at last room') (IsOutermost (Within R d)) (IsOutermost Free) (pre ++ l ∷ ls))
+    cond_both (goes_on s l.symbol) (expr_from last ls room (step s l)) (ended_at last (ended s) (l ∷ ls)) (Answers last (λ j. expr_at last (room' j)) (IsOutermost (Within R d)) (IsOutermost Free) (pre ++ l ∷ ls))
     (λ goes.
         let len' = length_push pre l in
-        let room_left : k ≡ suc (k - 1) = omega (arith, below) in
-        subst (λ x. Answers last (expr_at last room') (IsOutermost (Within R d)) (IsOutermost Free) x (expr_from last ls room (step s l))) (append_assoc pre (l ∷ []) ls)
-        (expr_answers_from last R d room' ls (step s l) (pre ++ l ∷ []) room (k - 1) (step_stands s l pre stands goes) (omega (arith, len, len')) (omega (arith, below))
-          (λ more. ap (expr_at last room') (append_assoc pre (l ∷ []) more) ∙ again (l ∷ more) ∙ one last (k - 1) k s l more room_left goes)))
+        subst (λ x. Answers last (λ j. expr_at last (room' j)) (IsOutermost (Within R d)) (IsOutermost Free) x (expr_from last ls room (step s l))) (append_assoc pre (l ∷ []) ls)
+        (expr_answers_from last R d room' ls (step s l) (pre ++ l ∷ []) room (λ j. k j - 1) (step_stands s l pre stands goes) (omega (arith, len, len')) (λ j. let b = below j in omega (arith, b))
+          (λ j more. let b = below j in ap (expr_at last (room' j)) (append_assoc pre (l ∷ []) more) ∙ again j (l ∷ more) ∙ one last (k j - 1) (k j) s l more (let e : k j ≡ suc (k j - 1) = omega (arith, b) in e) goes)))
     (λ halts. stopped_answers last R d room' l ls s pre k halts stands (omega (arith, len)) again)
 
-pub expr_answers : (last R d room' : ℕ) → R ≤ room' → (ls : List Lexeme) → Answers last (expr_at last room') (IsOutermost (Within R d)) (IsOutermost Free) ls (expr_at last R ls)
+pub expr_answers : {J : Type 0} (last R d : ℕ) (room' : J → ℕ) → ((j : J) → R ≤ room' j) → (ls : List Lexeme) → Answers last (λ j. expr_at last (room' j)) (IsOutermost (Within R d)) (IsOutermost Free) ls (expr_at last R ls)
 expr_answers last R d room' below ls =
-    expr_answers_from last R d room' ls (Awaits Nothing) [] R room' refl (omega arith) below (λ more. refl)
+    expr_answers_from last R d room' ls (Awaits Nothing) [] R room' refl (omega arith) below (λ j more. refl)

@@ -7,3 +7,4 @@ pub mod FindingStmts
 pub mod Freeing
 pub mod FindingBlocks
 pub mod DerivingBlocks
+pub mod Whole
