@@ -45,7 +45,7 @@ bound_left n =
     (λ no. cond_both (n == 3) 2 n (λ k. n ≤ k) (λ is. let e = eqb-true n 3 is in absurd (eqb-false n 3 no e)) (λ _. omega arith))
 
 -- one token that goes on
-one : (last r k : ℕ) (s : State) (l : Lexeme) (ls : List Lexeme) → k ≡ suc r → goes_on s l.symbol ≡ true → expr_from last (l ∷ ls) k s ≡ expr_from last ls r (step s l)
+pub one : (last r k : ℕ) (s : State) (l : Lexeme) (ls : List Lexeme) → k ≡ suc r → goes_on s l.symbol ≡ true → expr_from last (l ∷ ls) k s ≡ expr_from last ls r (step s l)
 unfolding expr_from
 one last r zero s l ls room goes = absurd (omega (arith, room))
 one last r (suc k) s l ls room goes =

@@ -3,5 +3,5 @@ pub mod Tree
 pub mod Pending
 pub mod Grammar
 pub mod Reading
-pub mod Gives
 pub mod Laws
+pub mod Gives

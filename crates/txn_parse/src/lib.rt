@@ -4,9 +4,11 @@
 mod blocks;
 mod expressions;
 mod pending;
+mod program;
 mod statements;
 mod symbols;
 mod tree;
 
+pub use program::{grammar_laws, parse_prog};
 pub use symbols::{Symbol, symbol_of};
 pub use tree::{RawBlock, RawExpr, RawProg, RawStmt};

@@ -1,0 +1,102 @@
+-- The laws of whole blocks.
+use Rattle.std.proofs.Common.{◌≡◌, ℕ, zero, suc, ◌+◌, ◌-◌, ◌<◌, ◌≤◌, ◌⊎◌, max, List, [], ◌∷◌, ◌++◌, length, take, drop, map, Result, Ok, Err, refl, sym, ap, ◌∙◌, subst, arith, inl, inr}
+use Rattle.std.proofs.lemmas.List.{append_assoc, append-nil, length-append, length-map, length-drop, take_at, drop_at, take-map, drop-map, drop-drop}
+use Rattle.txn_text.specs.declared.kinds.Token.{Token}
+use Rattle.txn_text.specs.declared.faults.FaultKind.TheVariants as fault
+use Rattle.txn_text.specs.declared.faults.TextFault.{TextFault}
+use Rattle.txn_text.specs.declared.faults.TextFault.TheVariants.{At}
+use Rattle.txn_parse.specs.Symbols.{Lexeme, lexemes}
+use Rattle.txn_parse.specs.Tree.{Commands, End}
+use Rattle.txn_parse.specs.Grammar.{Limits, Free, Within, IsBlock}
+use Rattle.txn_parse.specs.Reading.{Found, syntax_at, block_at}
+use Rattle.txn_parse.specs.Laws.{Begins, IsFirstBad, IsOneTooMany, IsFault, FoundIsDerived, DerivedIsFound, HasOneTree, FaultIsFirst}
+use Rattle.txn_parse.proofs.Freeing.{free_block, bound_block}
+use Rattle.txn_parse.proofs.Finding.{IsFound, IsBad, IsOver, Answers, SameFirst, first_of}
+use Rattle.txn_parse.proofs.FindingBlocks.{block_answers}
+use Rattle.txn_parse.proofs.DerivingBlocks.{reads_block}
+
+-- readers within wider limits
+record Wider : Type 0 where
+  room : ℕ
+  depth : ℕ
+  rooms : 64 ≤ room
+  depths : 32 ≤ depth
+
+answers : (last : ℕ) (ls : List Lexeme) → Answers last (λ (j : Wider). block_at last j.room j.depth) (IsBlock (Within 64 32)) (IsBlock Free) ls (block_at last 64 32 ls)
+answers last ls = block_answers last 64 (λ (j : Wider). j.room) (λ j. j.rooms) 32 (λ j. j.depth) (λ j. j.depths) ls
+
+found_by : (last : ℕ) (ls : List Lexeme) (b : Commands) (rest : List Lexeme) (r : Found Commands) → r ≡ Ok (b, rest) → Answers last (λ (j : Wider). block_at last j.room j.depth) (IsBlock (Within 64 32)) (IsBlock Free) ls r → (front : List Lexeme) × (ls ≡ front ++ rest) × IsBlock (Within 64 32) front b
+found_by last ls b rest (Ok q) is one =
+    let same : q ≡ (b, rest) = cc in
+    (one.front, one.split ∙ ap (λ (x : Commands × List Lexeme). one.front ++ x.1) same, subst (λ (x : Commands × List Lexeme). IsBlock (Within 64 32) one.front x.0) same one.derived)
+found_by last ls b rest (Err f) is one = cc
+
+pub found_is_derived : FoundIsDerived
+found_is_derived last ls b rest is = found_by last ls b rest (block_at last 64 32 ls) is (answers last ls)
+
+pub derived_is_found : DerivedIsFound
+derived_is_found last front rest b d = reads_block last 64 32 front b rest d
+
+-- limits that a list is within
+wide : (ls : List Lexeme) → Wider
+wide ls = record { room = 64 + length ls; depth = 32 + length ls; rooms = omega arith; depths = omega arith }
+
+read_free : (last : ℕ) (ls rest : List Lexeme) (b : Commands) → IsBlock Free ls b → (n m : ℕ) → length ls ≤ n → length ls ≤ m → block_at last n m (ls ++ rest) ≡ Ok (b, rest)
+read_free last ls rest b d n m room depth = reads_block last n m ls b rest (bound_block d n m room depth)
+
+tree_of : Found Commands → Commands
+tree_of (Ok r) = r.0
+tree_of (Err f) = End
+
+pub has_one_tree : HasOneTree
+unfolding tree_of
+has_one_tree lim lim' ls b b' d d' =
+    let first = read_free 0 ls [] b (free_block d) (length ls) (length ls) (omega arith) (omega arith) in
+    let second = read_free 0 ls [] b' (free_block d') (length ls) (length ls) (omega arith) (omega arith) in
+    ap tree_of (sym first ∙ second)
+
+first_same : (rest : List Lexeme) (l : Lexeme) (more ms : List Lexeme) → rest ≡ l ∷ more → SameFirst rest (l ∷ ms)
+first_same rest l more ms is = ap first_of is
+
+differ : (last n m : ℕ) (whole again : List Lexeme) (b : Commands) (f : TextFault) → whole ≡ again → block_at last n m (whole ++ []) ≡ Ok (b, []) → block_at last n m again ≡ Err f → ⊥
+differ last n m whole again b f same read fails =
+    let read' : block_at last n m again ≡ Ok (b, []) = ap (block_at last n m) (sym same ∙ sym (append-nil whole)) ∙ read in
+    cc
+
+first_bad : (last : ℕ) (ls : List Lexeme) (f : TextFault) → IsBad last (λ (j : Wider). block_at last j.room j.depth) (IsBlock Free) ls f → IsFirstBad (IsBlock Free) last ls f
+first_bad last ls f one = record {
+  front = one.front;
+  rest = one.rest;
+  split = one.split;
+  place = one.place;
+  begun = one.begun;
+  bad = λ l more is begun.
+    let whole = (one.front ++ l ∷ []) ++ begun.0 in
+    let tokens : whole ≡ one.front ++ (l ∷ begun.0) = append_assoc one.front (l ∷ []) begun.0 in
+    let read = read_free last whole [] begun.1 begun.2 (64 + length whole) (32 + length whole) (omega arith) (omega arith) in
+    let fails = one.again (record { room = 64 + length whole; depth = 32 + length whole; rooms = omega arith; depths = omega arith }) (l ∷ begun.0) (first_same one.rest l more begun.0 is) in
+    differ last (64 + length whole) (32 + length whole) whole (one.front ++ (l ∷ begun.0)) begun.1 (syntax_at last (l ∷ begun.0)) tokens read fails;
+}
+
+over : (ls : List Lexeme) (f : TextFault) → IsOver (IsBlock Free) ls f → IsOneTooMany (IsBlock Free) ls f
+over ls f one = record { front = one.front; token = one.l; rest = one.rest; split = one.split; place = one.place; begun = one.begun }
+
+fault_by : (last : ℕ) (ls : List Lexeme) (f : TextFault) (r : Found Commands) → r ≡ Err f → Answers last (λ (j : Wider). block_at last j.room j.depth) (IsBlock (Within 64 32)) (IsBlock Free) ls r → IsFault (IsBlock Free) last ls f
+fault_by last ls f (Ok q) is one = cc
+fault_by last ls f (Err g) is (inl one) = let same : g ≡ f = cc in subst (IsFault (IsBlock Free) last ls) same (inl (first_bad last ls g one))
+fault_by last ls f (Err g) is (inr one) = let same : g ≡ f = cc in subst (IsFault (IsBlock Free) last ls) same (inr (over ls g one))
+
+pub fault_is_first : FaultIsFirst
+fault_is_first last ls f is = fault_by last ls f (block_at last 64 32 ls) is (answers last ls)
+
+-- where a block that was read stands among the tokens
+pub place_found : (text : List ℕ) (toks behind : List Token) (from : ℕ) (front : List Lexeme) → from ≤ length toks → lexemes text (drop from toks) ≡ front ++ lexemes text behind →
+    (front ≡ lexemes text (take (length toks - length behind - from) (drop from toks))) × (lexemes text behind ≡ lexemes text (drop (length toks - length behind) toks)) × (length behind + from + length front ≡ length toks)
+place_found text toks behind from front within split =
+    let whole : length (drop from toks) ≡ length front + length behind = sym (length-map (drop from toks) _) ∙ ap length split ∙ length-append front (lexemes text behind) ∙ ap (λ n. length front + n) (length-map behind _) in
+    let dropped = length-drop from toks in
+    let here : length front ≡ length toks - length behind - from = omega (arith, whole, dropped, within) in
+    let there : from + (length toks - length behind - from) ≡ length toks - length behind = omega (arith, whole, dropped, within) in
+    ( sym (take_at front (lexemes text behind) _ here) ∙ ap (take (length toks - length behind - from)) (sym split) ∙ take-map _ (length toks - length behind - from) (drop from toks)
+    , sym (drop_at front (lexemes text behind) _ here) ∙ ap (drop (length toks - length behind - from)) (sym split) ∙ drop-map _ (length toks - length behind - from) (drop from toks) ∙ ap (lexemes text) (drop-drop (length toks - length behind - from) from toks ∙ ap (λ n. drop n toks) there)
+    , omega (arith, whole, dropped, within) )
