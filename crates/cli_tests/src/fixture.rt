@@ -1,17 +1,18 @@
 ghost use Rattle.std.specs.Prelude.{◌≤◌};
 
-use std::alloc::Global;
-
 use morty_base::{List, NoMemory};
 use morty_io::{MemSink, MemSource};
 use script_cli::run_here;
+use std::alloc::Global;
 use world::Event;
 
 /// The script that adds 1 to a cell that holds 4.
-pub const SCRIPT: &[u8] = b"morty 1 replicas 1 table x first x[1] 4 program inc { read a x[1]; write x[1] a + 1; print a } client 1 { inc at 10 } end";
+pub const SCRIPT: &[u8] =
+    b"morty 1 replicas 1 table x first x[1] 4 program inc { read a x[1]; write x[1] a + 1; print a } client 1 { inc at 10 } end";
 
 /// Its report.
-pub const REPORT: &[u8] = b"commit 10.1 txn 1.1 try 1 exec 0 end done\nread x[1] 4\nout 4\nvalue x[1] 5\nended quiet events 9\n";
+pub const REPORT: &[u8] =
+    b"commit 10.1 txn 1.1 try 1 exec 0 end done\nread x[1] 4\nout 4\nvalue x[1] 5\nended quiet events 9\n";
 
 pub const NOT_BUILT: &[u8] = b"morty: script form not built\n";
 
@@ -41,15 +42,27 @@ pub const SOUND: Outside<'static> = Outside {
 };
 
 /// Calls the program over memory.
-pub fn call(alloc: Global, words: &[&[u8]], text: &[u8], outside: Outside<'_>) -> Result<Answer, NoMemory>
+pub fn call(
+    alloc: Global,
+    words: &[&[u8]],
+    text: &[u8],
+    outside: Outside<'_>,
+) -> Result<Answer, NoMemory>
     requires { 1 ≤ outside.most }
 {
     let mut list = List::new(alloc);
     for word in words {
         list.push(List::from_slice(alloc, *word)?)?;
     }
-    let mut src = MemSource::new(List::from_slice(alloc, text)?, List::from_slice(alloc, outside.reads)?);
-    let mut out = MemSink::new(alloc, outside.most, List::from_slice(alloc, outside.writes)?)?;
+    let mut src = MemSource::new(
+        List::from_slice(alloc, text)?,
+        List::from_slice(alloc, outside.reads)?,
+    );
+    let mut out = MemSink::new(
+        alloc,
+        outside.most,
+        List::from_slice(alloc, outside.writes)?,
+    )?;
     let exit = run_here(alloc, list.as_slice(), &mut src, &mut out);
     Ok(Answer {
         status: exit.status,

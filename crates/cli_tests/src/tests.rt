@@ -1,9 +1,7 @@
-use std::test::Fail;
-
-use morty_base::{List, NodeId};
-use world::{Event, Pick};
-
 use crate::fixture::{BAD_COMMAND, NOT_BUILT, Outside, REPORT, SCRIPT, SOUND, call};
+use morty_base::{List, NodeId};
+use std::test::Fail;
+use world::{Event, Pick};
 
 #[test]
 fn one_transaction_runs_in_nine_events(rt: HostRuntime) -> Result<(), Fail> {
@@ -115,7 +113,10 @@ fn long_texts_are_refused(rt: HostRuntime) -> Result<(), Fail> {
     text.push(b' ')?;
     let answer = call(rt.alloc(), &[b"run".as_slice()], text.as_slice(), SOUND)?;
     assert_eq!(rt; answer.status, 3);
-    assert_eq!(rt; answer.taken.as_slice(), b"morty: script too long\n".as_slice());
+    assert_eq!(rt;
+        answer.taken.as_slice(),
+        b"morty: script too long\n".as_slice()
+    );
     Ok(())
 }
 
@@ -129,13 +130,64 @@ struct Case {
 }
 
 const CASES: [Case; 7] = [
-    Case { words: &[b"fly"], outside: SOUND, status: 2, taken: BAD_COMMAND },
-    Case { words: &[b"run", b"--workers", b"9"], outside: SOUND, status: 2, taken: BAD_COMMAND },
-    Case { words: &[], outside: SOUND, status: 2, taken: BAD_COMMAND },
-    Case { words: &[b"run"], outside: Outside { reads: &[1], most: 65536, writes: &[] }, status: 4, taken: b"morty: read failed\n" },
-    Case { words: &[b"run"], outside: Outside { reads: &[], most: 65536, writes: &[1] }, status: 5, taken: b"" },
-    Case { words: &[b"run"], outside: Outside { reads: &[], most: 10, writes: &[3] }, status: 5, taken: b"commit 10.1 txn 1.1 " },
-    Case { words: &[b"fly"], outside: Outside { reads: &[], most: 10, writes: &[2] }, status: 5, taken: b"morty: bad" },
+    Case {
+        words: &[b"fly"],
+        outside: SOUND,
+        status: 2,
+        taken: BAD_COMMAND,
+    },
+    Case {
+        words: &[b"run", b"--workers", b"9"],
+        outside: SOUND,
+        status: 2,
+        taken: BAD_COMMAND,
+    },
+    Case {
+        words: &[],
+        outside: SOUND,
+        status: 2,
+        taken: BAD_COMMAND,
+    },
+    Case {
+        words: &[b"run"],
+        outside: Outside {
+            reads: &[1],
+            most: 65536,
+            writes: &[],
+        },
+        status: 4,
+        taken: b"morty: read failed\n",
+    },
+    Case {
+        words: &[b"run"],
+        outside: Outside {
+            reads: &[],
+            most: 65536,
+            writes: &[1],
+        },
+        status: 5,
+        taken: b"",
+    },
+    Case {
+        words: &[b"run"],
+        outside: Outside {
+            reads: &[],
+            most: 10,
+            writes: &[3],
+        },
+        status: 5,
+        taken: b"commit 10.1 txn 1.1 ",
+    },
+    Case {
+        words: &[b"fly"],
+        outside: Outside {
+            reads: &[],
+            most: 10,
+            writes: &[2],
+        },
+        status: 5,
+        taken: b"morty: bad",
+    },
 ];
 
 #[test]
