@@ -1,7 +1,9 @@
-//! Tests of the top call over memory: its texts, its statuses and what the sink took.
+//! Tests over several crates: the top call over memory, and the texts of rows.
 #![tactic(auto)]
 
 #[cfg(test)]
 mod fixture;
 #[cfg(test)]
 mod tests;
+#[cfg(test)]
+mod texts;

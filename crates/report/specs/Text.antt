@@ -1,5 +1,5 @@
 -- The text of rows, line by line. Each line ends with a line feed.
-use Rattle.std.specs.Prelude.{ℕ, ℤ, List, [], ◌∷◌, ◌++◌, flat_map, codes, decimal, unwrap_or, slice_get}
+use Rattle.std.specs.Prelude.{ℕ, ℤ, pos, ◌+ℤ◌, Bool, true, false, List, [], ◌∷◌, ◌++◌, length, flat_map, fold, count_by, codes, decimal, unwrap_or, slice_get}
 use Rattle.std.specs.Fmt.{signed_decimal}
 use Rattle.morty_base.specs.declared.names.Version.{Version}
 use Rattle.morty_base.specs.declared.names.Key.{Key}
@@ -93,3 +93,29 @@ report_of tables rows kind =
 -- a serial run: its transactions and the last values
 unfoldable pub serial_of : Tables → Rows → List ℕ
 serial_of tables rows = flat_map (serial_block tables) rows.commits ++ flat_map (value_line tables) rows.values
+
+-- the sum of the values
+abbrev pub sum_of : List ValueRow → ℤ
+sum_of rows = fold (λ (sum : ℤ) (row : ValueRow). sum +ℤ row.value) (pos 0) rows
+
+abbrev pub is_left : Left → Left → Bool
+is_left Live Live = true
+is_left Aborted Aborted = true
+is_left Unbegun Unbegun = true
+is_left _ _ = false
+
+abbrev pub left_count : Left → List LeftRow → ℕ
+left_count state rows = count_by (λ row. is_left state row.state) rows
+
+unfoldable pub count_line : List ℕ → ℕ → List ℕ
+count_line word count = word ++ codes " " ++ decimal count ++ line_feed
+
+-- the summary of a run: its transactions counted, the sum of its last values, how it ended
+unfoldable pub brief_of : Rows → Ended → List ℕ
+brief_of rows kind =
+    count_line (codes "commits") (length rows.commits)
+    ++ count_line (codes "aborted") (left_count Aborted rows.left)
+    ++ count_line (codes "open") (left_count Live rows.left)
+    ++ count_line (codes "unbegun") (left_count Unbegun rows.left)
+    ++ codes "sum " ++ signed_decimal (sum_of rows.values) ++ line_feed
+    ++ ended_line kind rows.events

@@ -5,4 +5,4 @@ mod rows;
 mod text;
 
 pub use rows::{CommitRow, Left, LeftRow, Rows, ValueRow};
-pub use text::{report_text, serial_text};
+pub use text::{brief_text, report_text, serial_text};

@@ -4,6 +4,8 @@ use Rattle.morty_base.specs.declared.names.Ending.TheVariants.{Done, Overflow}
 use Rattle.msg.specs.declared.Content.{Content}
 use Rattle.txn_lang.specs.Value.{fits_word}
 use Rattle.world.specs.declared.script.FirstScript.{FirstScript}
+use Rattle.morty_base.specs.declared.names.NodeId.{NodeId}
+use Rattle.morty_base.specs.declared.names.NodeId.TheVariants as nodes
 use Rattle.world.specs.declared.stage.Slot.{Slot}
 use Rattle.world.specs.declared.stage.Slot.TheVariants.{Client, Replica}
 use Rattle.world.specs.declared.stage.Stage.{Stage}
@@ -71,6 +73,11 @@ waits_for (Preparing c) slot = is_replica slot
 waits_for (Voted c) slot = is_client slot
 waits_for (Decided c) slot = is_replica slot
 waits_for (Committed c) slot = false
+
+-- the node of a slot
+abbrev pub node_of : Slot → NodeId
+node_of Client = nodes.Client 1
+node_of Replica = nodes.Replica 1
 
 abbrev pub other_of : Slot → Slot
 other_of Client = Replica

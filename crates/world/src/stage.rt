@@ -2,7 +2,7 @@ ghost use Rattle.std.specs.Prelude.{◌≡◌, ◌<◌, IfOk, true};
 ghost use Rattle.world.specs.Script.{cell as cell_of};
 ghost use Rattle.world.specs.Rows.{read_first, moved};
 ghost use Rattle.world.specs.declared.script.FirstScript.{FirstScript as FirstScriptValue};
-ghost use Rattle.world.specs.Stage.{content_of, IsReached, waits_for as waits_for_of, other_of, rank};
+ghost use Rattle.world.specs.Stage.{content_of, IsReached, waits_for as waits_for_of, node_of, other_of, rank};
 
 use crate::list::one;
 use crate::script::{FirstScript, cell};
@@ -52,7 +52,9 @@ impl Slot {
         }
     }
 
-    pub fn node(self) -> NodeId {
+    pub fn node(self) -> NodeId
+        ensures { result ≡ node_of self }
+    {
         match self {
             Slot::Client => NodeId::Client(1),
             Slot::Replica => NodeId::Replica(1),
