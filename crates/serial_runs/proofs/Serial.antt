@@ -135,7 +135,7 @@ module _ (s : Scripted) (positive : 0 < s.replicas) (events : List Event) where
   reached : Reach (plan_of s) (replay_from (plan_of s) first_world events)
   reached = events_reach (plan_of s) first_world first_world Begins events
 
-  listed : IsCommittedList (replay_from (plan_of s) first_world events) (committed_executions (plan_of s) (replay_from (plan_of s) first_world events))
+  pub listed : IsCommittedList (replay_from (plan_of s) first_world events) (committed_executions (plan_of s) (replay_from (plan_of s) first_world events))
   listed = (committed_list (plan_of s) positive events).holds
 
   -- a committed version is above that of first values
@@ -147,7 +147,7 @@ module _ (s : Scripted) (positive : 0 < s.replicas) (events : List Event) where
       subst (λ (y : Exec). before no_version y.ver ≡ true) k.2 (cast_above_none (TheWorld.replica m.0) (taking_reach (plan_of s) TheWorld (events_reach (plan_of s) first_world first_world Begins events) m.0) k.0 k.1)
 
   -- of two committed executions the earlier one has an earlier version
-  version_before : (d c : CommittedExec) → IsCommittedAs TheWorld d → IsCommittedAs TheWorld c → exec_before d.exec c.exec ≡ true → before d.exec.ver c.exec.ver ≡ true
+  pub version_before : (d c : CommittedExec) → IsCommittedAs TheWorld d → IsCommittedAs TheWorld c → exec_before d.exec c.exec ≡ true → before d.exec.ver c.exec.ver ≡ true
   unfolding exec_before
   version_before d c i j e = go (before d.exec.ver c.exec.ver) refl e
     where
@@ -271,27 +271,30 @@ module _ (s : Scripted) (positive : 0 < s.replicas) (events : List Event) where
       (All-map (λ (x : Entry). held (map_of Firsts earlier) x.key ≡ x.value) entry_read c.content.reads
       (all_of (λ (rd : Read). held (map_of Firsts earlier) rd.key ≡ rd.value) c.content.reads (λ rd i. holds earlier c later e rd i))))
 
-  runs_from : (earlier later : List CommittedExec) → earlier ++ later ≡ Executions →
-      AreRuns later (serial (map_of Firsts earlier) (programs_of s later)) × (map_of Firsts (earlier ++ later) ≡ last_map (map_of Firsts earlier) (programs_of s later))
-  runs_from earlier [] e = (tt, ap (λ (l : List CommittedExec). map_of Firsts l) (append-nil earlier))
-  runs_from earlier (c ∷ later) e = go (runs_from (earlier ++ c ∷ []) later (append_assoc earlier (c ∷ []) later ∙ e))
-      (ran c (listed.only c (subst (λ (l : List CommittedExec). IsIn c l) e (IsIn-right c earlier (c ∷ later) (inl refl)))))
+  -- so it is for each part of the list, on the map that the part before leaves
+  pub runs_from : (earlier part later : List CommittedExec) → earlier ++ (part ++ later) ≡ Executions →
+      AreRuns part (serial (map_of Firsts earlier) (programs_of s part)) × (map_of Firsts (earlier ++ part) ≡ last_map (map_of Firsts earlier) (programs_of s part))
+  runs_from earlier [] later e = (tt, ap (λ (l : List CommittedExec). map_of Firsts l) (append-nil earlier))
+  runs_from earlier (c ∷ part) later e = go (runs_from (earlier ++ c ∷ []) part later (append_assoc earlier (c ∷ []) (part ++ later) ∙ e))
+      (ran c (listed.only c (subst (λ (l : List CommittedExec). IsIn c l) e (IsIn-right c earlier (c ∷ (part ++ later)) (inl refl)))))
     where
-      go : AreRuns later (serial (map_of Firsts (earlier ++ c ∷ [])) (programs_of s later)) × (map_of Firsts ((earlier ++ c ∷ []) ++ later) ≡ last_map (map_of Firsts (earlier ++ c ∷ [])) (programs_of s later)) →
+      go : AreRuns part (serial (map_of Firsts (earlier ++ c ∷ [])) (programs_of s part)) × (map_of Firsts ((earlier ++ c ∷ []) ++ part) ≡ last_map (map_of Firsts (earlier ++ c ∷ [])) (programs_of s part)) →
           (t : Start) × (start_at s c.exec.ver.client c.txn ≡ Some t) × Ran c t →
-          AreRuns (c ∷ later) (serial (map_of Firsts earlier) (programs_of s (c ∷ later))) × (map_of Firsts (earlier ++ c ∷ later) ≡ last_map (map_of Firsts earlier) (programs_of s (c ∷ later)))
+          AreRuns (c ∷ part) (serial (map_of Firsts earlier) (programs_of s (c ∷ part))) × (map_of Firsts (earlier ++ c ∷ part) ≡ last_map (map_of Firsts earlier) (programs_of s (c ∷ part)))
       go ih (t, f, r) =
-          let same = serial_is earlier c later e t r in
+          let same = serial_is earlier c (part ++ later) e t r in
           let left : map_of Firsts (earlier ++ c ∷ []) ≡ map_after (map_of Firsts earlier) t.program =
           map_one_more earlier c Firsts ∙ ap (λ (ws : List Entry). after_writes ws (map_of Firsts earlier)) (r.writes ∙ ap kept (sym same)) in
-          let runs : AreRuns (c ∷ later) (serial (map_of Firsts earlier) (t.program ∷ programs_of s later)) = (
+          let runs : AreRuns (c ∷ part) (serial (map_of Firsts earlier) (t.program ∷ programs_of s part)) = (
             subst (λ (u : Run). IsRunOf c u) (sym same) (record { reads = r.reads; out = r.out; writes = r.writes; ending = r.ending }),
-            subst (λ (m : List Entry). AreRuns later (serial m (programs_of s later))) left ih.0,
+            subst (λ (m : List Entry). AreRuns part (serial m (programs_of s part))) left ih.0,
           ) in
-          let last : map_of Firsts (earlier ++ c ∷ later) ≡ last_map (map_of Firsts earlier) (t.program ∷ programs_of s later) =
-          ap (λ (l : List CommittedExec). map_of Firsts l) (sym (append_assoc earlier (c ∷ []) later)) ∙ ih.1 ∙ ap (λ (m : List Entry). last_map m (programs_of s later)) left in
-          subst (λ (o : Option Start). AreRuns (c ∷ later) (serial (map_of Firsts earlier) (add_program o (programs_of s later))) × (map_of Firsts (earlier ++ c ∷ later) ≡ last_map (map_of Firsts earlier) (add_program o (programs_of s later))))
+          let last : map_of Firsts (earlier ++ c ∷ part) ≡ last_map (map_of Firsts earlier) (t.program ∷ programs_of s part) =
+          ap (λ (l : List CommittedExec). map_of Firsts l) (sym (append_assoc earlier (c ∷ []) part)) ∙ ih.1 ∙ ap (λ (m : List Entry). last_map m (programs_of s part)) left in
+          subst (λ (o : Option Start). AreRuns (c ∷ part) (serial (map_of Firsts earlier) (add_program o (programs_of s part))) × (map_of Firsts (earlier ++ c ∷ part) ≡ last_map (map_of Firsts earlier) (add_program o (programs_of s part))))
           (sym f) (runs, last)
 
 pub serial_reads : SerialReads
-serial_reads s positive events = let r = runs_from s positive events [] (committed_executions (plan_of s) (replay_from (plan_of s) first_world events)) refl in record { runs = r.0; left = r.1 }
+serial_reads s positive events =
+    let cs = committed_executions (plan_of s) (replay_from (plan_of s) first_world events) in
+    let r = runs_from s positive events [] cs [] (append-nil cs) in record { runs = r.0; left = r.1 }

@@ -1,15 +1,19 @@
 -- The serial run of what a world has committed.
-use Rattle.std.specs.Prelude.{◌≡◌, ℕ, ◌-◌, ◌<◌, List, [], ◌∷◌, map, Option, Some, None}
+use Rattle.std.specs.Prelude.{filter, not, ◌≡◌, ℕ, ◌-◌, ◌<◌, List, [], ◌∷◌, map, Option, Some, None}
 use Rattle.std.specs.List.{slice_get}
+use Rattle.morty_base.specs.declared.names.Version.{Version}
+use Rattle.morty_base.specs.Names.{before}
+use Rattle.msg.specs.declared.BaseEntry.{BaseEntry}
+use Rattle.protocol.specs.Lists.{IsIn}
 use Rattle.msg.specs.declared.Read.{Read}
 use Rattle.msg.specs.declared.Write.{Write}
 use Rattle.msg.specs.declared.Event.{Event}
-use Rattle.txn_lang.specs.Keys.{Entry, entry, after_writes}
+use Rattle.txn_lang.specs.Keys.{Entry, entry, held, after_writes}
 use Rattle.txn_lang.specs.Runs.{Run, kept}
 use Rattle.txn_lang.specs.Program.{Program, serial, last_map}
 use Rattle.protocol.specs.declared.First2.{First2}
 use Rattle.protocol.specs.World.{first_world, replay_from}
-use Rattle.protocol.specs.Outcome.{CommittedExec, committed_executions}
+use Rattle.protocol.specs.Outcome.{CommittedExec, committed_executions, base_at}
 use Rattle.programs.specs.Scripted.{Start, Scripted, plan_of}
 
 -- first values as a map
@@ -66,3 +70,13 @@ pub record IsSerial (s : Scripted) (cs : List CommittedExec) : Type 0 where
 abbrev pub SerialReads : Type 0
 SerialReads = (s : Scripted) → 0 < s.replicas → (events : List Event) →
     IsSerial s (committed_executions (plan_of s) (replay_from (plan_of s) first_world events))
+
+-- the executions at or below a version
+abbrev pub upto_version : Version → List CommittedExec → List CommittedExec
+upto_version v cs = filter (λ c. not (before v c.exec.ver)) cs
+
+-- the base of a world at a version has the values of the map that the serial run up to that version leaves
+abbrev pub SerialBase : Type 0
+SerialBase = (s : Scripted) → 0 < s.replicas → (events : List Event) (v : Version) (e : BaseEntry) →
+    IsIn e (base_at (plan_of s) (replay_from (plan_of s) first_world events) v) →
+    held (last_map (first_map s.firsts) (programs_of s (upto_version v (committed_executions (plan_of s) (replay_from (plan_of s) first_world events))))) e.key ≡ e.value
