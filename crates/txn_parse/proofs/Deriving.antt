@@ -1,19 +1,18 @@
 -- An expression in the grammar is read, with its tree.
-use Rattle.std.proofs.Common.{◌≡◌, ℕ, zero, suc, ◌+◌, ◌-◌, ◌<◌, ◌≤◌, ◌==◌, ◌&&◌, ◌||◌, not, ltb, leb, eqb, Bool, true, false, cond, List, [], ◌∷◌, ◌++◌, length, Option, Some, None, Result, Ok, Err, refl, sym, ap, ◌∙◌, subst, arith, inl, inr, ⊎_elim}
-use Rattle.std.proofs.lemmas.List.{append_assoc, append-nil, length-append}
-use Rattle.std.proofs.lemmas.Bool.{cond_both, cond-true, cond-false, le-leb, lt-leb, eqb-true, eqb-false, cases_Bool, and_left, ne_eqb, eq-eqb, lt-ltb, le-ltb, and_right, false_from_ne_true, not_from_false}
+use Rattle.std.proofs.Common.{◌≡◌, ℕ, zero, suc, ◌+◌, ◌-◌, ◌<◌, ◌≤◌, ◌==◌, ◌&&◌, ◌||◌, not, ltb, leb, Bool, true, false, cond, List, [], ◌∷◌, ◌++◌, length, Ok, Err, refl, sym, ap, ◌∙◌, arith, ⊎_elim}
+use Rattle.std.proofs.lemmas.List.{append_assoc, length-append}
+use Rattle.std.proofs.lemmas.Bool.{cond_both, cond-true, cond-false, le-leb, lt-leb, eqb-true, eqb-false, cases_Bool, and_left, ne_eqb, lt-ltb, le-ltb, and_right, false_from_ne_true, not_from_false}
 use Rattle.txn_lang.specs.declared.tree.BinOp.{BinOp}
 use Rattle.txn_lang.specs.declared.tree.BinOp.TheVariants as op
-use Rattle.txn_text.specs.declared.kinds.Token.{Token}
 use Rattle.txn_text.specs.declared.faults.FaultKind.TheVariants as fault
 use Rattle.txn_text.specs.declared.faults.TextFault.TheVariants.{At}
 use Rattle.txn_parse.specs.declared.symbols.Symbol.{Symbol}
 use Rattle.txn_parse.specs.declared.symbols.Symbol.TheVariants as symbol
 use Rattle.txn_parse.specs.Symbols.{Lexeme, lexeme}
-use Rattle.txn_parse.specs.Tree.{Term, Num, Local, Neg, Not, Bin}
-use Rattle.txn_parse.specs.Pending.{level_of, Opened, Nothing, Minus, Deny, Paren, Infix, State, Awaits, Has, give, joined, closed, whole, has_paren, compares, goes_on_behind, goes_on, operator_step, step, ended}
+use Rattle.txn_parse.specs.Tree.{Term, Bin}
+use Rattle.txn_parse.specs.Pending.{level_of, Opened, Nothing, Minus, Deny, Paren, Infix, State, Awaits, Has, give, joined, whole, compares, goes_on_behind, goes_on, operator_step, step}
 use Rattle.txn_parse.specs.Grammar.{left_level, IsExpr, number, local, negative, denied, grouped, joined as between, tighter}
-use Rattle.txn_parse.specs.Reading.{Found, ended_at, expr_from, expr_at}
+use Rattle.txn_parse.specs.Reading.{ended_at, expr_from, expr_at}
 use Rattle.txn_parse.proofs.Standing.{top, Unsigned, unsigned_below, left_level_least, level_some, level_most}
 
 abbrev pub symbol_level : Symbol → ℕ
@@ -84,12 +83,12 @@ chain_same : (n m : ℕ) (c : Bool) → n ≤ bound m → (n == 3 && (m == 3 || 
 chain_same n m c below =
     ⊎_elim
     (λ is.
-        let e = eqb-true n 3 is in
-        let apart : (m == 3) ≡ false = false_from_ne_true (m == 3) (λ t. let cut = cond-true (m == 3) 2 m t in omega (arith, below, cut, e)) in
-        let most = bound_most m in
-        let far = eqb-false m 3 apart in
-        let tight : ltb 3 m ≡ true = lt-ltb 3 m (omega (arith, below, most, e, far)) in
-        ap (λ b. n == 3 && b) (ap (λ b. b || (ltb 3 m && c)) apart ∙ ap (λ b. b && c) tight))
+    let e = eqb-true n 3 is in
+    let apart : (m == 3) ≡ false = false_from_ne_true (m == 3) (λ t. let cut = cond-true (m == 3) 2 m t in omega (arith, below, cut, e)) in
+    let most = bound_most m in
+    let far = eqb-false m 3 apart in
+    let tight : ltb 3 m ≡ true = lt-ltb 3 m (omega (arith, below, most, e, far)) in
+    ap (λ b. n == 3 && b) (ap (λ b. b || (ltb 3 m && c)) apart ∙ ap (λ b. b && c) tight))
     (λ no. and_left (n == 3) _ no ∙ sym (and_left (n == 3) c no))
     (cases_Bool (n == 3))
 

@@ -1,16 +1,15 @@
 -- A block in the grammar is read, with its tree.
-use Rattle.std.proofs.Common.{◌≡◌, ℕ, zero, suc, ◌+◌, ◌-◌, ◌<◌, ◌≤◌, Bool, true, false, cond, List, [], ◌∷◌, ◌++◌, length, Result, Ok, Err, refl, sym, ap, ◌∙◌, subst, arith}
-use Rattle.std.proofs.lemmas.List.{append_assoc, append-nil, length-append}
+use Rattle.std.proofs.Common.{◌≡◌, ℕ, zero, suc, ◌+◌, ◌<◌, Bool, true, false, List, [], ◌∷◌, ◌++◌, length, Ok, refl, sym, ap, ◌∙◌, subst, arith}
+use Rattle.std.proofs.lemmas.List.{append_assoc, length-append}
 use Rattle.txn_text.specs.declared.kinds.Token.{Token}
 use Rattle.txn_parse.specs.declared.symbols.Symbol.{Symbol}
-use Rattle.txn_parse.specs.declared.symbols.Symbol.TheVariants.{Name, Number, Let, Read, Write, Print, If, Else, Repeat, Abort, Assign, Semicolon, OpenBlock, CloseBlock, OpenIndex, CloseIndex}
+use Rattle.txn_parse.specs.declared.symbols.Symbol.TheVariants.{Else, Semicolon, CloseBlock, CloseIndex}
 use Rattle.txn_parse.specs.Symbols.{Lexeme, lexeme}
-use Rattle.txn_parse.specs.Tree.{Term, Command, Let as SetTo, Read as ReadOf, Write as WriteOf, Print as PrintOf, If as Choice, Repeat as Loop, Abort as Stop, Commands, End, Then}
+use Rattle.txn_parse.specs.Tree.{Term, Command, Let as SetTo, Read as ReadOf, Write as WriteOf, Print as PrintOf, If as Choice, Repeat as Loop, Commands, End}
 use Rattle.txn_parse.specs.Grammar.{Limits, Within, MayOpen, inside, IsOutermost, IsStmt, sets, reads, writes, prints, chooses, chooses_else, repeats, aborts, IsBlock, braced, IsStmts, last as last_one, last_ended, more}
 use Rattle.txn_parse.specs.Reading.{Found, Reader, ◌>>=◌, take_at, expr_at, let_at, read_at, write_at, print_at, else_at, if_at, repeat_at, stmt_at, separator_at, with_stmt, stmts_at, block_at}
 use Rattle.txn_parse.proofs.Loops.{stmts_more, stmts_last}
 use Rattle.txn_parse.proofs.Deriving.{next_level, reads_outermost}
-use Rattle.txn_parse.proofs.Freeing.{some_stmt}
 
 -- what may follow a statement
 abbrev pub Separates : Symbol → Type 0
@@ -70,7 +69,7 @@ reads_stmt (chooses_else lim w z ls ms ns e a b o b1 b2) last R d block is ok x 
     let blk1 = subst (λ l. IsBlock l ms a) is b1 in
     let blk2 = subst (λ l. IsBlock l ns b) is b2 in
     ap (λ l. expr_at last R l >>= (λ e. block e.1 >>= (λ a. else_at block a.1 >>= (λ b. let f : Found Command = Ok (Choice e.0 a.0 b.0, b.1) in f))))
-      (append_assoc ls (ms ++ lexeme Else z ∷ ns) (lexeme x t ∷ rest) ∙ ap (λ l. ls ++ l) (append_assoc ms (lexeme Else z ∷ ns) (lexeme x t ∷ rest)))
+    (append_assoc ls (ms ++ lexeme Else z ∷ ns) (lexeme x t ∷ rest) ∙ ap (λ l. ls ++ l) (append_assoc ms (lexeme Else z ∷ ns) (lexeme x t ∷ rest)))
     ∙ ap (λ r. r >>= (λ e. block e.1 >>= (λ a. else_at block a.1 >>= (λ b. let f : Found Command = Ok (Choice e.0 a.0 b.0, b.1) in f)))) (outer last R d ls e (ms ++ lexeme Else z ∷ (ns ++ lexeme x t ∷ rest)) out (brace_first blk1 (lexeme Else z ∷ (ns ++ lexeme x t ∷ rest))))
     ∙ ap (λ r. r >>= (λ a. else_at block a.1 >>= (λ b. let f : Found Command = Ok (Choice e a.0 b.0, b.1) in f))) (ok ms a (lexeme Else z ∷ (ns ++ lexeme x t ∷ rest)) blk1)
     ∙ ap (λ r. r >>= (λ b. let f : Found Command = Ok (Choice e a b.0, b.1) in f)) (ok ns b (lexeme x t ∷ rest) blk2)

@@ -1,16 +1,14 @@
 -- What a reader found is in the grammar, or its fault is at the first token with which nothing begins; and it is found
 -- again where only what follows differs.
-use Rattle.std.proofs.Common.{◌≡◌, ℕ, zero, suc, ◌+◌, ◌-◌, ◌<◌, ◌≤◌, ◌==◌, ◌⊎◌, Bool, true, false, cond, List, [], ◌∷◌, ◌++◌, length, Option, Some, None, Result, Ok, Err, refl, sym, ap, ◌∙◌, subst, arith, inl, inr, ⊎_elim}
-use Rattle.std.proofs.lemmas.List.{append_assoc, append-nil}
-use Rattle.std.proofs.lemmas.Bool.{cond_both, cases_Bool, cond-true, cond-false}
+use Rattle.std.proofs.Common.{◌≡◌, ℕ, ◌⊎◌, true, List, [], ◌∷◌, ◌++◌, Option, Some, None, Ok, Err, refl, sym, ap, ◌∙◌, subst, inl, inr}
+use Rattle.std.proofs.lemmas.List.{append_assoc}
+use Rattle.std.proofs.lemmas.Bool.{cond_both, cond-true, cond-false}
 use Rattle.txn_text.specs.declared.kinds.Token.{Token}
 use Rattle.txn_text.specs.declared.kinds.TokenKind.TheVariants as kind
-use Rattle.txn_text.specs.declared.faults.FaultKind.{FaultKind}
 use Rattle.txn_text.specs.declared.faults.FaultKind.TheVariants as fault
 use Rattle.txn_text.specs.declared.faults.TextFault.{TextFault}
 use Rattle.txn_text.specs.declared.faults.TextFault.TheVariants.{At}
 use Rattle.txn_parse.specs.declared.symbols.Symbol.{Symbol}
-use Rattle.txn_parse.specs.declared.symbols.Symbol.TheVariants as symbol
 use Rattle.txn_parse.specs.Symbols.{Lexeme, lexeme, is}
 use Rattle.txn_parse.specs.Reading.{Found, Reader, ◌>>=◌, syntax_at, take_at}
 use Rattle.txn_parse.specs.Laws.{Begins}
@@ -77,9 +75,9 @@ found_then last Q G1 H1 k' G H ls a rest (Ok b) one two =
       split = one.split ∙ ap (λ x. one.front ++ x) two.split ∙ sym (append_assoc one.front two.front b.1);
       derived = two.derived;
       again = λ j more same.
-        ap (λ x. Q j x >>= k' j) (append_assoc one.front two.front more)
-        ∙ ap (λ x. x >>= k' j) (one.again j (two.front ++ more) (ap first_of two.split ∙ same_first_behind two.front b.1 more same))
-        ∙ two.again j more same;
+          ap (λ x. Q j x >>= k' j) (append_assoc one.front two.front more)
+          ∙ ap (λ x. x >>= k' j) (one.again j (two.front ++ more) (ap first_of two.split ∙ same_first_behind two.front b.1 more same))
+          ∙ two.again j more same;
     }
 found_then last Q G1 H1 k' G H ls a rest (Err f) one (inl two) =
     inl (record {
@@ -89,9 +87,9 @@ found_then last Q G1 H1 k' G H ls a rest (Err f) one (inl two) =
       place = two.place;
       begun = (two.begun.0, two.begun.1, subst (λ x. H x two.begun.1) (sym (append_assoc one.front two.front two.begun.0)) two.begun.2);
       again = λ j more same.
-        ap (λ x. Q j x >>= k' j) (append_assoc one.front two.front more)
-        ∙ ap (λ x. x >>= k' j) (one.again j (two.front ++ more) (ap first_of two.split ∙ same_first_behind two.front two.rest more same))
-        ∙ two.again j more same;
+          ap (λ x. Q j x >>= k' j) (append_assoc one.front two.front more)
+          ∙ ap (λ x. x >>= k' j) (one.again j (two.front ++ more) (ap first_of two.split ∙ same_first_behind two.front two.rest more same))
+          ∙ two.again j more same;
     })
 found_then last Q G1 H1 k' G H ls a rest (Err f) one (inr two) =
     inr (record {
@@ -100,7 +98,7 @@ found_then last Q G1 H1 k' G H ls a rest (Err f) one (inr two) =
       rest = two.rest;
       split = one.split ∙ ap (λ x. one.front ++ x) two.split ∙ sym (append_assoc one.front two.front (two.l ∷ two.rest));
       place = two.place;
-      begun = (two.begun.0, two.begun.1, subst (λ x. H x two.begun.1) (ap (λ x. x ++ two.begun.0) (sym (append_assoc one.front two.front (two.l ∷ [])) ) ∙ refl) (subst (λ x. H x two.begun.1) (sym (append_assoc one.front (two.front ++ two.l ∷ []) two.begun.0)) two.begun.2));
+      begun = (two.begun.0, two.begun.1, subst (λ x. H x two.begun.1) (ap (λ x. x ++ two.begun.0) (sym (append_assoc one.front two.front (two.l ∷ []))) ∙ refl) (subst (λ x. H x two.begun.1) (sym (append_assoc one.front (two.front ++ two.l ∷ []) two.begun.0)) two.begun.2));
     })
 
 -- some way to go on from what is in a grammar
@@ -170,7 +168,7 @@ take_answers J last wanted (l ∷ ls) plain =
     cond_both (is l.symbol wanted) (Ok (l.token, ls)) (Err (syntax_at last (l ∷ ls))) (Answers last (λ (j : J). take_at last wanted) (Is wanted) (Is wanted) (l ∷ ls))
     (take_found last wanted l ls plain)
     (λ other. bad_here last (λ (j : J). take_at last wanted) (Is wanted) (Is wanted) (l ∷ ls) (lexeme wanted some_token ∷ [], some_token, refl)
-      (λ j more same. begins_same (λ ms. take_at last wanted ms ≡ Err (syntax_at last ms)) l ls more same (λ ms. cond-false (is l.symbol wanted) _ _ other)))
+    (λ j more same. begins_same (λ ms. take_at last wanted ms ≡ Err (syntax_at last ms)) l ls more same (λ ms. cond-false (is l.symbol wanted) _ _ other)))
 
 -- a token, and then what follows it
 pub take_then : {B J : Type 0} (last : ℕ) (wanted : Symbol) (k : Token × List Lexeme → Found B) (k' : J → Token × List Lexeme → Found B) (G H : List Lexeme → B → Type 0) (ls : List Lexeme) → Plain wanted →

@@ -1,6 +1,6 @@
 -- What is found of a block.
-use Rattle.std.proofs.Common.{◌≡◌, ℕ, zero, suc, ◌+◌, ◌-◌, ◌<◌, ◌≤◌, ◌⊎◌, Bool, true, false, cond, List, [], ◌∷◌, ◌++◌, length, Option, Some, None, Result, Ok, Err, refl, sym, ap, ◌∙◌, subst, arith, inl, inr}
-use Rattle.std.proofs.lemmas.List.{append_assoc, append-nil, length-append}
+use Rattle.std.proofs.Common.{◌≡◌, ℕ, zero, suc, ◌+◌, ◌-◌, ◌<◌, ◌≤◌, Bool, true, false, cond, List, [], ◌∷◌, ◌++◌, length, Ok, Err, refl, sym, ap, ◌∙◌, subst, arith, inl, inr}
+use Rattle.std.proofs.lemmas.List.{append_assoc, length-append}
 use Rattle.std.proofs.lemmas.Bool.{cond_both, cond-true, cond-false}
 use Rattle.txn_text.specs.declared.kinds.Token.{Token}
 use Rattle.txn_text.specs.declared.faults.FaultKind.TheVariants as fault
@@ -14,8 +14,8 @@ use Rattle.txn_parse.specs.Grammar.{Limits, Free, Within, IsStmt, aborts, IsBloc
 use Rattle.txn_parse.specs.Reading.{Found, Reader, ◌>>=◌, syntax_at, take_at, stmt_at, more_at, separator_by, separator_at, with_stmt, stmts_at, block_at}
 use Rattle.txn_parse.specs.Laws.{Begins}
 use Rattle.txn_parse.proofs.Loops.{stmts_err, stmts_separator_err, stmts_more, stmts_last, brace_err}
-use Rattle.txn_parse.proofs.Freeing.{free_stmt, free_block, free_stmts, some_stmt}
-use Rattle.txn_parse.proofs.Finding.{SameFirst, IsFound, IsBad, IsOver, Answers, found_here, bad_here, some_token, then_answers, take_then, answers_as, begins_same, ends_same}
+use Rattle.txn_parse.proofs.Freeing.{free_stmt, free_block, some_stmt}
+use Rattle.txn_parse.proofs.Finding.{Answers, found_here, bad_here, some_token, then_answers, take_then, answers_as, begins_same, ends_same}
 use Rattle.txn_parse.proofs.FindingStmts.{plain_open_block, plain_close_block, some_block, ReadsBlocks, stmt_answers}
 
 -- what stands behind a statement, and whether one more follows
@@ -148,11 +148,12 @@ closed_behind lim front c s y d =
     (front ++ lexeme Semicolon s ∷ [], y, sym (append_assoc front (lexeme Semicolon s ∷ []) (lexeme CloseBlock y ∷ [])), last_ended lim s front c d)
 
 closed_more : (lim : Limits) (front : List Lexeme) (c : Command) (s : Token) → IsStmt lim front c → (ms : List Lexeme) (cs : Commands) → Closed lim ms cs → Closed lim (front ++ lexeme Semicolon s ∷ ms) (Then c cs)
-closed_more lim front c s d ms cs rest =
-    ( front ++ lexeme Semicolon s ∷ rest.0
-    , rest.1
-    , ap (λ x. front ++ lexeme Semicolon s ∷ x) rest.2 ∙ sym (append_assoc front (lexeme Semicolon s ∷ rest.0) (lexeme CloseBlock rest.1 ∷ []))
-    , goes_on lim s front rest.0 c cs d rest.3 )
+closed_more lim front c s d ms cs rest = (
+  front ++ lexeme Semicolon s ∷ rest.0,
+  rest.1,
+  ap (λ x. front ++ lexeme Semicolon s ∷ x) rest.2 ∙ sym (append_assoc front (lexeme Semicolon s ∷ rest.0) (lexeme CloseBlock rest.1 ∷ [])),
+  goes_on lim s front rest.0 c cs d rest.3,
+)
 
 with_stmt_answers : {J : Type 0} (last : ℕ) (c : Command) (Q : J → Reader Commands) (G G1 H H1 : List Lexeme → Commands → Type 0) (ls : List Lexeme) (r : Found Commands) →
     ((ms : List Lexeme) (cs : Commands) → G1 ms cs → G ms (Then c cs)) → ((ms : List Lexeme) (cs : Commands) → H1 ms cs → H ms (Then c cs)) →
@@ -183,9 +184,11 @@ with_stmt_answers last c Q G G1 H H1 ls (Err f) g h (inr one) = inr (record {
 separator_sample : (front : List Lexeme) (c : Command) → IsStmt Free front c → (b : Bool) (sep : List Lexeme) → IsSep sep b → (ms : List Lexeme) × (cs : Commands) × Closed Free (front ++ (sep ++ ms)) cs
 separator_sample front c h b sep (closes y) = ([], Then c End, closed_by Free front c y h)
 separator_sample front c h b sep (closes_behind s y) = ([], Then c End, closed_behind Free front c s y h)
-separator_sample front c h b sep (parts s) =
-    ( lexeme Abort some_token ∷ lexeme CloseBlock some_token ∷ [], Then c (Then Stop End)
-    , closed_more Free front c s h (lexeme Abort some_token ∷ lexeme CloseBlock some_token ∷ []) (Then Stop End) (closed_by Free (lexeme Abort some_token ∷ []) Stop some_token (aborts Free some_token)) )
+separator_sample front c h b sep (parts s) = (
+  lexeme Abort some_token ∷ lexeme CloseBlock some_token ∷ [],
+  Then c (Then Stop End),
+  closed_more Free front c s h (lexeme Abort some_token ∷ lexeme CloseBlock some_token ∷ []) (Then Stop End) (closed_by Free (lexeme Abort some_token ∷ []) Stop some_token (aborts Free some_token)),
+)
 
 -- what is found behind a statement and what separates it
 after_separator : {J : Type 0} (last n : ℕ) (lim : Limits) (stmt : Reader Command) (stmt' : J → Reader Command) (front : List Lexeme) (c : Command) → IsStmt lim front c → (b : Bool) (sep rest : List Lexeme) → IsSep sep b →
@@ -235,8 +238,8 @@ stmts_answers last lim stmt stmt' ok shrink (suc n) ls few =
     (stmt ls >>= (λ c. separator_at last c.1 >>= (λ m. cond m.0 (with_stmt c.0 (stmts_at last stmt n m.1)) (Ok (Then c.0 End, m.1)))))
     (λ j. unfold_stmts last (stmt' j) (shrink j)) (λ ms cs g. g) (λ ms cs h. h)
     (then_answers last stmt' (IsStmt lim) (IsStmt Free) (λ c. separator_at last c.1 >>= (λ m. cond m.0 (with_stmt c.0 (stmts_at last stmt n m.1)) (Ok (Then c.0 End, m.1)))) (λ j. behind_stmt last (stmt' j)) (Closed lim) (Closed Free) ls (stmt ls) (ok ls)
-      (λ c front h. (lexeme CloseBlock some_token ∷ [], Then c End, closed_by Free front c some_token h))
-      (λ c front rest split d. behind_answers last n lim stmt stmt' (stmts_answers last lim stmt stmt' ok shrink n) c front rest (behind_shorter front rest ls n few split) d))
+    (λ c front h. (lexeme CloseBlock some_token ∷ [], Then c End, closed_by Free front c some_token h))
+    (λ c front rest split d. behind_answers last n lim stmt stmt' (stmts_answers last lim stmt stmt' ok shrink n) c front rest (behind_shorter front rest ls n few split) d))
 
 deep_answers : {J : Type 0} (last R d : ℕ) (ls : List Lexeme) → (Q : J → Reader Commands) → ((j : J) (ms : List Lexeme) (e : TextFault) → take_at last OpenBlock ms ≡ Err e → Q j ms ≡ Err e) →
     Answers last Q (IsBlock (Within R d)) (IsBlock Free) ls (block_at last R zero ls)
@@ -252,12 +255,14 @@ deep_answers last R d (l ∷ ls) Q faults =
       rest = ls;
       split = refl;
       place = inl refl;
-      begun = subst (λ s. Begins (IsBlock Free) (lexeme s l.token ∷ [])) (sym (plain_open_block l.symbol here))
-        ( lexeme Abort some_token ∷ [] ++ lexeme CloseBlock some_token ∷ [], Then Stop End
-        , braced Free l.token some_token (lexeme Abort some_token ∷ []) (Then Stop End) tt (last_one Free (lexeme Abort some_token ∷ []) Stop (aborts Free some_token)) );
+      begun = subst (λ s. Begins (IsBlock Free) (lexeme s l.token ∷ [])) (sym (plain_open_block l.symbol here)) (
+        lexeme Abort some_token ∷ [] ++ lexeme CloseBlock some_token ∷ [],
+        Then Stop End,
+        braced Free l.token some_token (lexeme Abort some_token ∷ []) (Then Stop End) tt (last_one Free (lexeme Abort some_token ∷ []) Stop (aborts Free some_token)),
+      );
     }))
     (λ other. bad_here last Q (IsBlock (Within R d)) (IsBlock Free) (l ∷ ls) (lexeme OpenBlock some_token ∷ (lexeme Abort some_token ∷ [] ++ lexeme CloseBlock some_token ∷ []), Then Stop End, some_block)
-      (λ j more same. begins_same (λ ms. Q j ms ≡ Err (syntax_at last ms)) l ls more same (λ ms. faults j (l ∷ ms) (syntax_at last (l ∷ ms)) (cond-false (is l.symbol OpenBlock) _ _ other))))
+    (λ j more same. begins_same (λ ms. Q j ms ≡ Err (syntax_at last ms)) l ls more same (λ ms. faults j (l ∷ ms) (syntax_at last (l ∷ ms)) (cond-false (is l.symbol OpenBlock) _ _ other))))
 
 deeper : (last R d : ℕ) (ls : List Lexeme) → 0 < d → block_at last R d ls ≡ (take_at last OpenBlock ls >>= (λ x. all_stmts last (stmt_at last R (block_at last R (d - 1))) x.1))
 unfolding block_at
@@ -284,11 +289,11 @@ block_step {J} last R R' rooms d d' deep inner shrink ls =
     (take_then last OpenBlock (λ x. stmts_at last stmt (length x.1 + 1) x.1) (λ j x. all_stmts last (stmt' j) x.1) (IsBlock (Within R (suc d))) (IsBlock Free) ls plain_open_block
     (λ t. (lexeme Abort some_token ∷ [] ++ lexeme CloseBlock some_token ∷ [], Then Stop End, braced Free t some_token (lexeme Abort some_token ∷ []) (Then Stop End) tt (last_one Free (lexeme Abort some_token ∷ []) Stop (aborts Free some_token))))
     (λ t rest.
-      answers_as last (λ j. all_stmts last (stmt' j)) (λ j. all_stmts last (stmt' j)) (λ ms. IsBlock (Within R (suc d)) (lexeme OpenBlock t ∷ ms)) (Closed (Within R d)) (λ ms. IsBlock Free (lexeme OpenBlock t ∷ ms)) (Closed Free) rest (stmts_at last stmt (length rest + 1) rest)
-      (λ j ms. refl)
-      (λ ms cs g. subst (λ x. IsBlock (Within R (suc d)) (lexeme OpenBlock t ∷ x) cs) (sym g.2) (braced (Within R (suc d)) t g.1 g.0 cs tt g.3))
-      (λ ms cs h. subst (λ x. IsBlock Free (lexeme OpenBlock t ∷ x) cs) (sym h.2) (braced Free t h.1 h.0 cs tt h.3))
-      (stmts_answers last (Within R d) stmt stmt' ok shrink (length rest + 1) rest (omega arith))))
+    answers_as last (λ j. all_stmts last (stmt' j)) (λ j. all_stmts last (stmt' j)) (λ ms. IsBlock (Within R (suc d)) (lexeme OpenBlock t ∷ ms)) (Closed (Within R d)) (λ ms. IsBlock Free (lexeme OpenBlock t ∷ ms)) (Closed Free) rest (stmts_at last stmt (length rest + 1) rest)
+    (λ j ms. refl)
+    (λ ms cs g. subst (λ x. IsBlock (Within R (suc d)) (lexeme OpenBlock t ∷ x) cs) (sym g.2) (braced (Within R (suc d)) t g.1 g.0 cs tt g.3))
+    (λ ms cs h. subst (λ x. IsBlock Free (lexeme OpenBlock t ∷ x) cs) (sym h.2) (braced Free t h.1 h.0 cs tt h.3))
+    (stmts_answers last (Within R d) stmt stmt' ok shrink (length rest + 1) rest (omega arith))))
 
 abbrev Own : ℕ → ℕ → ℕ → ℕ → Type 0
 Own last R d n = ReadsBlocks last (Within R d) (block_at last R d) (λ (j : Unit {0}). block_at last R n)

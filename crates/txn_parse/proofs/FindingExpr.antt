@@ -1,5 +1,5 @@
 -- What is found of an expression.
-use Rattle.std.proofs.Common.{◌≡◌, ℕ, zero, suc, ◌+◌, ◌-◌, ◌<◌, ◌≤◌, ◌⊎◌, Bool, true, false, cond, List, [], ◌∷◌, ◌++◌, length, Option, Some, None, Result, Ok, Err, refl, sym, ap, ◌∙◌, subst, arith, inl, inr}
+use Rattle.std.proofs.Common.{◌≡◌, ℕ, zero, suc, ◌+◌, ◌-◌, ◌≤◌, false, List, [], ◌∷◌, ◌++◌, length, Option, Some, None, Err, refl, ap, ◌∙◌, subst, arith, inl, inr}
 use Rattle.std.proofs.lemmas.List.{append_assoc, length_push}
 use Rattle.std.proofs.lemmas.Bool.{cond_both, cond-false}
 use Rattle.txn_text.specs.declared.faults.FaultKind.TheVariants as fault
@@ -7,12 +7,12 @@ use Rattle.txn_text.specs.declared.faults.TextFault.TheVariants.{At}
 use Rattle.txn_parse.specs.Symbols.{Lexeme}
 use Rattle.txn_parse.specs.Tree.{Term}
 use Rattle.txn_parse.specs.Pending.{State, Awaits, Nothing, goes_on, step, ended}
-use Rattle.txn_parse.specs.Grammar.{Limits, Free, Within, IsOutermost}
-use Rattle.txn_parse.specs.Reading.{Found, Reader, syntax_at, ended_at, expr_from, expr_at}
+use Rattle.txn_parse.specs.Grammar.{Free, Within, IsOutermost}
+use Rattle.txn_parse.specs.Reading.{ended_at, expr_from, expr_at}
 use Rattle.txn_parse.specs.Laws.{Begins}
 use Rattle.txn_parse.proofs.Standing.{StandsState, Completes, state_completes, step_stands, ended_stands}
 use Rattle.txn_parse.proofs.Deriving.{one}
-use Rattle.txn_parse.proofs.Finding.{SameFirst, IsFound, IsBad, IsOver, Answers, begins_same, ends_same}
+use Rattle.txn_parse.proofs.Finding.{SameFirst, Answers, begins_same, ends_same}
 
 begins_with : (front : List Lexeme) → Completes front → Begins (IsOutermost Free) front
 begins_with front c = (c.0, c.1, record { short = tt; derived = c.2 })
@@ -67,10 +67,10 @@ expr_answers_from last R d room' (l ∷ ls) s pre zero k stands len below again 
 expr_answers_from last R d room' (l ∷ ls) s pre (suc room) k stands len below again =
     cond_both (goes_on s l.symbol) (expr_from last ls room (step s l)) (ended_at last (ended s) (l ∷ ls)) (Answers last (λ j. expr_at last (room' j)) (IsOutermost (Within R d)) (IsOutermost Free) (pre ++ l ∷ ls))
     (λ goes.
-        let len' = length_push pre l in
-        subst (λ x. Answers last (λ j. expr_at last (room' j)) (IsOutermost (Within R d)) (IsOutermost Free) x (expr_from last ls room (step s l))) (append_assoc pre (l ∷ []) ls)
-        (expr_answers_from last R d room' ls (step s l) (pre ++ l ∷ []) room (λ j. k j - 1) (step_stands s l pre stands goes) (omega (arith, len, len')) (λ j. let b = below j in omega (arith, b))
-          (λ j more. let b = below j in ap (expr_at last (room' j)) (append_assoc pre (l ∷ []) more) ∙ again j (l ∷ more) ∙ one last (k j - 1) (k j) s l more (let e : k j ≡ suc (k j - 1) = omega (arith, b) in e) goes)))
+    let len' = length_push pre l in
+    subst (λ x. Answers last (λ j. expr_at last (room' j)) (IsOutermost (Within R d)) (IsOutermost Free) x (expr_from last ls room (step s l))) (append_assoc pre (l ∷ []) ls)
+    (expr_answers_from last R d room' ls (step s l) (pre ++ l ∷ []) room (λ j. k j - 1) (step_stands s l pre stands goes) (omega (arith, len, len')) (λ j. let b = below j in omega (arith, b))
+    (λ j more. let b = below j in ap (expr_at last (room' j)) (append_assoc pre (l ∷ []) more) ∙ again j (l ∷ more) ∙ one last (k j - 1) (k j) s l more (let e : k j ≡ suc (k j - 1) = omega (arith, b) in e) goes)))
     (λ halts. stopped_answers last R d room' l ls s pre k halts stands (omega (arith, len)) again)
 
 pub expr_answers : {J : Type 0} (last R d : ℕ) (room' : J → ℕ) → ((j : J) → R ≤ room' j) → (ls : List Lexeme) → Answers last (λ j. expr_at last (room' j)) (IsOutermost (Within R d)) (IsOutermost Free) ls (expr_at last R ls)

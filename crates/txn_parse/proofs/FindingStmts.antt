@@ -1,18 +1,16 @@
 -- What is found of a statement.
-use Rattle.std.proofs.Common.{◌≡◌, ℕ, zero, suc, ◌+◌, ◌-◌, ◌<◌, ◌≤◌, ◌⊎◌, Bool, true, false, cond, List, [], ◌∷◌, ◌++◌, length, Option, Some, None, Result, Ok, Err, refl, sym, ap, ◌∙◌, subst, arith, inl, inr}
-use Rattle.std.proofs.lemmas.List.{append_assoc, append-nil}
+use Rattle.std.proofs.Common.{◌≡◌, ℕ, ◌≤◌, ◌⊎◌, List, [], ◌∷◌, ◌++◌, Ok, Err, refl, sym, ap, subst, arith, inl, inr}
+use Rattle.std.proofs.lemmas.List.{append-nil}
 use Rattle.std.proofs.lemmas.Bool.{cond_both, cond-true, cond-false}
 use Rattle.txn_text.specs.declared.kinds.Token.{Token}
-use Rattle.txn_text.specs.declared.faults.TextFault.TheVariants.{At}
 use Rattle.txn_parse.specs.declared.symbols.Symbol.{Symbol}
-use Rattle.txn_parse.specs.declared.symbols.Symbol.TheVariants.{Name, Number, Let, Read, Write, Print, If, Else, Repeat, Abort, Not, Op, Assign, Semicolon, OpenBlock, CloseBlock, OpenIndex, CloseIndex, OpenParen, CloseParen, Other}
+use Rattle.txn_parse.specs.declared.symbols.Symbol.TheVariants.{Name, Number, Let, Read, Write, Print, If, Else, Repeat, Abort, Assign, OpenBlock, CloseBlock, OpenIndex, CloseIndex}
 use Rattle.txn_parse.specs.Symbols.{Lexeme, lexeme, is}
 use Rattle.txn_parse.specs.Tree.{Term, Num, Command, Let as SetTo, Read as ReadOf, Write as WriteOf, Print as PrintOf, If as Choice, Repeat as Loop, Abort as Stop, Commands, End, Then}
-use Rattle.txn_parse.specs.Grammar.{Limits, Free, Within, IsExpr, number, tighter, IsOutermost, IsStmt, sets, reads, writes, prints, chooses, chooses_else, repeats, aborts, IsBlock, braced, IsStmts, last as last_one}
-use Rattle.txn_parse.specs.Reading.{Found, Reader, ◌>>=◌, syntax_at, take_at, expr_at, let_at, read_at, write_at, print_at, else_at, if_at, repeat_at, stmt_by, stmt_at}
-use Rattle.txn_parse.specs.Laws.{Begins}
+use Rattle.txn_parse.specs.Grammar.{Limits, Free, Within, number, IsOutermost, IsStmt, sets, reads, writes, prints, chooses, chooses_else, repeats, aborts, IsBlock, braced, last as last_one}
+use Rattle.txn_parse.specs.Reading.{Reader, syntax_at, expr_at, let_at, read_at, write_at, print_at, else_at, if_at, repeat_at, stmt_by, stmt_at}
 use Rattle.txn_parse.proofs.Standing.{loosened}
-use Rattle.txn_parse.proofs.Finding.{SameFirst, IsFound, IsBad, IsOver, Answers, found_here, bad_here, Plain, some_token, then_answers, take_then, cons_answers, begins_same, ends_same, GoesOn}
+use Rattle.txn_parse.proofs.Finding.{Answers, found_here, bad_here, Plain, some_token, then_answers, take_then, cons_answers, begins_same, ends_same}
 use Rattle.txn_parse.proofs.FindingExpr.{expr_answers}
 
 pub plain_name : Plain Name
@@ -75,10 +73,10 @@ let_answers last R d room' below w ls =
     take_then last Name _ _ (G (Within R d)) (G Free) ls plain_name
     (λ v. (lexeme Assign some_token ∷ one_number, SetTo v (Num some_token), sets Free w v some_token one_number (Num some_token) some_outer))
     (λ v r1. take_then last Assign _ _ (λ ms. G (Within R d) (lexeme Name v ∷ ms)) (λ ms. G Free (lexeme Name v ∷ ms)) r1 plain_assign
-      (λ s. (one_number, SetTo v (Num some_token), sets Free w v s one_number (Num some_token) some_outer))
-      (λ s r2. then_answers last (λ j. expr_at last (room' j)) (IsOutermost (Within R d)) (IsOutermost Free) _ _ (λ ms. G (Within R d) (lexeme Name v ∷ lexeme Assign s ∷ ms)) (λ ms. G Free (lexeme Name v ∷ lexeme Assign s ∷ ms)) r2 (expr_at last R r2) (expr_answers last R d room' below r2)
-        (λ e es out. ([], SetTo v e, sets Free w v s (es ++ []) e (at_end Free es e out)))
-        (λ e es r3 split out. found_here _ (SetTo v e) r3 (sets (Within R d) w v s (es ++ []) e (at_end (Within R d) es e out)))))
+    (λ s. (one_number, SetTo v (Num some_token), sets Free w v s one_number (Num some_token) some_outer))
+    (λ s r2. then_answers last (λ j. expr_at last (room' j)) (IsOutermost (Within R d)) (IsOutermost Free) _ _ (λ ms. G (Within R d) (lexeme Name v ∷ lexeme Assign s ∷ ms)) (λ ms. G Free (lexeme Name v ∷ lexeme Assign s ∷ ms)) r2 (expr_at last R r2) (expr_answers last R d room' below r2)
+    (λ e es out. ([], SetTo v e, sets Free w v s (es ++ []) e (at_end Free es e out)))
+    (λ e es r3 split out. found_here _ (SetTo v e) r3 (sets (Within R d) w v s (es ++ []) e (at_end (Within R d) es e out)))))
 
 read_answers : {J : Type 0} (last R d : ℕ) (room' : J → ℕ) → ((j : J) → R ≤ room' j) → (w : Token) (ls : List Lexeme) → Answers last (λ j. read_at last (room' j)) (λ ms. IsStmt (Within R d) (lexeme Read w ∷ ms)) (λ ms. IsStmt Free (lexeme Read w ∷ ms)) ls (read_at last R ls)
 unfolding read_at
@@ -88,14 +86,14 @@ read_answers last R d room' below w ls =
     take_then last Name _ _ (G (Within R d)) (G Free) ls plain_name
     (λ v. (lexeme Name some_token ∷ lexeme OpenIndex some_token ∷ (one_number ++ close), ReadOf v some_token (Num some_token), reads Free w v some_token some_token some_token one_number (Num some_token) some_outer))
     (λ v r1. take_then last Name _ _ (λ ms. G (Within R d) (lexeme Name v ∷ ms)) (λ ms. G Free (lexeme Name v ∷ ms)) r1 plain_name
-      (λ t. (lexeme OpenIndex some_token ∷ (one_number ++ close), ReadOf v t (Num some_token), reads Free w v t some_token some_token one_number (Num some_token) some_outer))
-      (λ t r2. take_then last OpenIndex _ _ (λ ms. G (Within R d) (lexeme Name v ∷ lexeme Name t ∷ ms)) (λ ms. G Free (lexeme Name v ∷ lexeme Name t ∷ ms)) r2 plain_open_index
-        (λ x. (one_number ++ close, ReadOf v t (Num some_token), reads Free w v t x some_token one_number (Num some_token) some_outer))
-        (λ x r3. then_answers last (λ j. expr_at last (room' j)) (IsOutermost (Within R d)) (IsOutermost Free) _ _ (λ ms. G (Within R d) (lexeme Name v ∷ lexeme Name t ∷ lexeme OpenIndex x ∷ ms)) (λ ms. G Free (lexeme Name v ∷ lexeme Name t ∷ lexeme OpenIndex x ∷ ms)) r3 (expr_at last R r3) (expr_answers last R d room' below r3)
-          (λ i is out. (close, ReadOf v t i, reads Free w v t x some_token is i out))
-          (λ i is r4 split out. take_then last CloseIndex _ _ (λ ms. G (Within R d) (lexeme Name v ∷ lexeme Name t ∷ lexeme OpenIndex x ∷ (is ++ ms))) (λ ms. G Free (lexeme Name v ∷ lexeme Name t ∷ lexeme OpenIndex x ∷ (is ++ ms))) r4 plain_close_index
-            (λ y. ([], ReadOf v t i, reads Free w v t x y is i (freed (Within R d) is i out)))
-            (λ y r5. found_here _ (ReadOf v t i) r5 (reads (Within R d) w v t x y is i out))))))
+    (λ t. (lexeme OpenIndex some_token ∷ (one_number ++ close), ReadOf v t (Num some_token), reads Free w v t some_token some_token one_number (Num some_token) some_outer))
+    (λ t r2. take_then last OpenIndex _ _ (λ ms. G (Within R d) (lexeme Name v ∷ lexeme Name t ∷ ms)) (λ ms. G Free (lexeme Name v ∷ lexeme Name t ∷ ms)) r2 plain_open_index
+    (λ x. (one_number ++ close, ReadOf v t (Num some_token), reads Free w v t x some_token one_number (Num some_token) some_outer))
+    (λ x r3. then_answers last (λ j. expr_at last (room' j)) (IsOutermost (Within R d)) (IsOutermost Free) _ _ (λ ms. G (Within R d) (lexeme Name v ∷ lexeme Name t ∷ lexeme OpenIndex x ∷ ms)) (λ ms. G Free (lexeme Name v ∷ lexeme Name t ∷ lexeme OpenIndex x ∷ ms)) r3 (expr_at last R r3) (expr_answers last R d room' below r3)
+    (λ i is out. (close, ReadOf v t i, reads Free w v t x some_token is i out))
+    (λ i is r4 split out. take_then last CloseIndex _ _ (λ ms. G (Within R d) (lexeme Name v ∷ lexeme Name t ∷ lexeme OpenIndex x ∷ (is ++ ms))) (λ ms. G Free (lexeme Name v ∷ lexeme Name t ∷ lexeme OpenIndex x ∷ (is ++ ms))) r4 plain_close_index
+    (λ y. ([], ReadOf v t i, reads Free w v t x y is i (freed (Within R d) is i out)))
+    (λ y r5. found_here _ (ReadOf v t i) r5 (reads (Within R d) w v t x y is i out))))))
 
 write_answers : {J : Type 0} (last R d : ℕ) (room' : J → ℕ) → ((j : J) → R ≤ room' j) → (w : Token) (ls : List Lexeme) → Answers last (λ j. write_at last (room' j)) (λ ms. IsStmt (Within R d) (lexeme Write w ∷ ms)) (λ ms. IsStmt Free (lexeme Write w ∷ ms)) ls (write_at last R ls)
 unfolding write_at
@@ -105,14 +103,14 @@ write_answers last R d room' below w ls =
     take_then last Name _ _ (G (Within R d)) (G Free) ls plain_name
     (λ t. (lexeme OpenIndex some_token ∷ (one_number ++ behind), WriteOf t (Num some_token) (Num some_token), writes Free w t some_token some_token one_number one_number (Num some_token) (Num some_token) some_outer some_outer))
     (λ t r1. take_then last OpenIndex _ _ (λ ms. G (Within R d) (lexeme Name t ∷ ms)) (λ ms. G Free (lexeme Name t ∷ ms)) r1 plain_open_index
-      (λ x. (one_number ++ behind, WriteOf t (Num some_token) (Num some_token), writes Free w t x some_token one_number one_number (Num some_token) (Num some_token) some_outer some_outer))
-      (λ x r2. then_answers last (λ j. expr_at last (room' j)) (IsOutermost (Within R d)) (IsOutermost Free) _ _ (λ ms. G (Within R d) (lexeme Name t ∷ lexeme OpenIndex x ∷ ms)) (λ ms. G Free (lexeme Name t ∷ lexeme OpenIndex x ∷ ms)) r2 (expr_at last R r2) (expr_answers last R d room' below r2)
-        (λ i is out. (behind, WriteOf t i (Num some_token), writes Free w t x some_token is one_number i (Num some_token) out some_outer))
-        (λ i is r3 split out. take_then last CloseIndex _ _ (λ ms. G (Within R d) (lexeme Name t ∷ lexeme OpenIndex x ∷ (is ++ ms))) (λ ms. G Free (lexeme Name t ∷ lexeme OpenIndex x ∷ (is ++ ms))) r3 plain_close_index
-          (λ y. (one_number, WriteOf t i (Num some_token), writes Free w t x y is one_number i (Num some_token) (freed (Within R d) is i out) some_outer))
-          (λ y r4. then_answers last (λ j. expr_at last (room' j)) (IsOutermost (Within R d)) (IsOutermost Free) _ _ (λ ms. G (Within R d) (lexeme Name t ∷ lexeme OpenIndex x ∷ (is ++ lexeme CloseIndex y ∷ ms))) (λ ms. G Free (lexeme Name t ∷ lexeme OpenIndex x ∷ (is ++ lexeme CloseIndex y ∷ ms))) r4 (expr_at last R r4) (expr_answers last R d room' below r4)
-            (λ e es out2. ([], WriteOf t i e, writes Free w t x y is (es ++ []) i e (freed (Within R d) is i out) (at_end Free es e out2)))
-            (λ e es r5 split2 out2. found_here _ (WriteOf t i e) r5 (writes (Within R d) w t x y is (es ++ []) i e out (at_end (Within R d) es e out2)))))))
+    (λ x. (one_number ++ behind, WriteOf t (Num some_token) (Num some_token), writes Free w t x some_token one_number one_number (Num some_token) (Num some_token) some_outer some_outer))
+    (λ x r2. then_answers last (λ j. expr_at last (room' j)) (IsOutermost (Within R d)) (IsOutermost Free) _ _ (λ ms. G (Within R d) (lexeme Name t ∷ lexeme OpenIndex x ∷ ms)) (λ ms. G Free (lexeme Name t ∷ lexeme OpenIndex x ∷ ms)) r2 (expr_at last R r2) (expr_answers last R d room' below r2)
+    (λ i is out. (behind, WriteOf t i (Num some_token), writes Free w t x some_token is one_number i (Num some_token) out some_outer))
+    (λ i is r3 split out. take_then last CloseIndex _ _ (λ ms. G (Within R d) (lexeme Name t ∷ lexeme OpenIndex x ∷ (is ++ ms))) (λ ms. G Free (lexeme Name t ∷ lexeme OpenIndex x ∷ (is ++ ms))) r3 plain_close_index
+    (λ y. (one_number, WriteOf t i (Num some_token), writes Free w t x y is one_number i (Num some_token) (freed (Within R d) is i out) some_outer))
+    (λ y r4. then_answers last (λ j. expr_at last (room' j)) (IsOutermost (Within R d)) (IsOutermost Free) _ _ (λ ms. G (Within R d) (lexeme Name t ∷ lexeme OpenIndex x ∷ (is ++ lexeme CloseIndex y ∷ ms))) (λ ms. G Free (lexeme Name t ∷ lexeme OpenIndex x ∷ (is ++ lexeme CloseIndex y ∷ ms))) r4 (expr_at last R r4) (expr_answers last R d room' below r4)
+    (λ e es out2. ([], WriteOf t i e, writes Free w t x y is (es ++ []) i e (freed (Within R d) is i out) (at_end Free es e out2)))
+    (λ e es r5 split2 out2. found_here _ (WriteOf t i e) r5 (writes (Within R d) w t x y is (es ++ []) i e out (at_end (Within R d) es e out2)))))))
 
 print_answers : {J : Type 0} (last R d : ℕ) (room' : J → ℕ) → ((j : J) → R ≤ room' j) → (w : Token) (ls : List Lexeme) → Answers last (λ j. print_at last (room' j)) (λ ms. IsStmt (Within R d) (lexeme Print w ∷ ms)) (λ ms. IsStmt Free (lexeme Print w ∷ ms)) ls (print_at last R ls)
 unfolding print_at
@@ -136,10 +134,10 @@ else_answers last lim block block' ok [] =
 else_answers last lim block block' ok (l ∷ ls) =
     cond_both (is l.symbol Else) (block ls) (Ok (End, l ∷ ls)) (Answers last (λ j. else_at (block' j)) (IsElse lim) (IsElse Free) (l ∷ ls))
     (λ here. cons_answers last (λ j. else_at (block' j)) block' (IsElse lim) (IsBlock lim) (IsElse Free) (IsBlock Free) l ls (block ls)
-      (λ j ms. cond-true (is l.symbol Else) _ _ here)
-      (λ ms b g. inr (l.token, ms, ap (λ s. lexeme s l.token ∷ ms) (plain_else l.symbol here), g))
-      (λ ms b h. inr (l.token, ms, ap (λ s. lexeme s l.token ∷ ms) (plain_else l.symbol here), h))
-      (ok ls))
+    (λ j ms. cond-true (is l.symbol Else) _ _ here)
+    (λ ms b g. inr (l.token, ms, ap (λ s. lexeme s l.token ∷ ms) (plain_else l.symbol here), g))
+    (λ ms b h. inr (l.token, ms, ap (λ s. lexeme s l.token ∷ ms) (plain_else l.symbol here), h))
+    (ok ls))
     (λ absent. record { front = []; split = refl; derived = inl (refl, refl); again = λ j more same. begins_same (λ ms. else_at (block' j) ms ≡ Ok (End, ms)) l ls more same (λ ms. cond-false (is l.symbol Else) _ _ absent) })
 
 -- a choice, by its else
@@ -159,10 +157,10 @@ if_answers last R d room' block block' below ok free w ls =
     then_answers last (λ j. expr_at last (room' j)) (IsOutermost (Within R d)) (IsOutermost Free) _ _ (G (Within R d)) (G Free) ls (expr_at last R ls) (expr_answers last R d room' below ls)
     (λ e es out. (one_block, Choice e (Then Stop End) End, chooses Free w es one_block e (Then Stop End) out some_block))
     (λ e es r1 split out. then_answers last block' (IsBlock (Within R d)) (IsBlock Free) _ _ (λ ms. G (Within R d) (es ++ ms)) (λ ms. G Free (es ++ ms)) r1 (block r1) (ok r1)
-      (λ a asl g. ([], Choice e a End, subst (λ x. G Free (es ++ x) (Choice e a End)) (sym (append-nil asl)) (chooses Free w es asl e a (freed (Within R d) es e out) g)))
-      (λ a asl r2 split2 g. then_answers last (λ j. else_at (block' j)) (IsElse (Within R d)) (IsElse Free) _ _ (λ ms. G (Within R d) (es ++ (asl ++ ms))) (λ ms. G Free (es ++ (asl ++ ms))) r2 (else_at block r2) (else_answers last (Within R d) block block' ok r2)
-        (λ b bs h. ([], Choice e a b, chosen Free w es asl (bs ++ []) e a b (freed (Within R d) es e out) (free asl a g) (subst (λ x. IsElse Free x b) (sym (append-nil bs)) h)))
-        (λ b bs r3 split3 h. found_here _ (Choice e a b) r3 (chosen (Within R d) w es asl (bs ++ []) e a b out g (subst (λ x. IsElse (Within R d) x b) (sym (append-nil bs)) h)))))
+    (λ a asl g. ([], Choice e a End, subst (λ x. G Free (es ++ x) (Choice e a End)) (sym (append-nil asl)) (chooses Free w es asl e a (freed (Within R d) es e out) g)))
+    (λ a asl r2 split2 g. then_answers last (λ j. else_at (block' j)) (IsElse (Within R d)) (IsElse Free) _ _ (λ ms. G (Within R d) (es ++ (asl ++ ms))) (λ ms. G Free (es ++ (asl ++ ms))) r2 (else_at block r2) (else_answers last (Within R d) block block' ok r2)
+    (λ b bs h. ([], Choice e a b, chosen Free w es asl (bs ++ []) e a b (freed (Within R d) es e out) (free asl a g) (subst (λ x. IsElse Free x b) (sym (append-nil bs)) h)))
+    (λ b bs r3 split3 h. found_here _ (Choice e a b) r3 (chosen (Within R d) w es asl (bs ++ []) e a b out g (subst (λ x. IsElse (Within R d) x b) (sym (append-nil bs)) h)))))
 
 repeat_answers : {J : Type 0} (last R d : ℕ) (block : Reader Commands) (block' : J → Reader Commands) → ReadsBlocks last (Within R d) block block' → (w : Token) (ls : List Lexeme) →
     Answers last (λ j. repeat_at last (block' j)) (λ ms. IsStmt (Within R d) (lexeme Repeat w ∷ ms)) (λ ms. IsStmt Free (lexeme Repeat w ∷ ms)) ls (repeat_at last block ls)
@@ -172,8 +170,8 @@ repeat_answers last R d block block' ok w ls =
     take_then last Number _ _ (G (Within R d)) (G Free) ls plain_number
     (λ n. (one_block, Loop n (Then Stop End), repeats Free w n one_block (Then Stop End) some_block))
     (λ n r1. then_answers last block' (IsBlock (Within R d)) (IsBlock Free) _ _ (λ ms. G (Within R d) (lexeme Number n ∷ ms)) (λ ms. G Free (lexeme Number n ∷ ms)) r1 (block r1) (ok r1)
-      (λ b bs g. ([], Loop n b, repeats Free w n (bs ++ []) b (subst (λ x. IsBlock Free x b) (sym (append-nil bs)) g)))
-      (λ b bs r2 split g. found_here _ (Loop n b) r2 (repeats (Within R d) w n (bs ++ []) b (subst (λ x. IsBlock (Within R d) x b) (sym (append-nil bs)) g))))
+    (λ b bs g. ([], Loop n b, repeats Free w n (bs ++ []) b (subst (λ x. IsBlock Free x b) (sym (append-nil bs)) g)))
+    (λ b bs r2 split g. found_here _ (Loop n b) r2 (repeats (Within R d) w n (bs ++ []) b (subst (λ x. IsBlock (Within R d) x b) (sym (append-nil bs)) g))))
 
 stmt_answers_by : {J : Type 0} (last R d : ℕ) (room' : J → ℕ) (block : Reader Commands) (block' : J → Reader Commands) → ((j : J) → R ≤ room' j) → ReadsBlocks last (Within R d) block block' → ((ls : List Lexeme) (b : Commands) → IsBlock (Within R d) ls b → IsBlock Free ls b) → (x : Symbol) (t : Token) (ls : List Lexeme) →
     Answers last (λ j. stmt_at last (room' j) (block' j)) (IsStmt (Within R d)) (IsStmt Free) (lexeme x t ∷ ls) (stmt_by last R block (lexeme x t) x ls)

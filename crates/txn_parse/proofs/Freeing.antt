@@ -1,7 +1,6 @@
 -- What is within limits is in the grammar without them, and all that is in it is within some.
-use Rattle.std.proofs.Common.{◌≡◌, ℕ, zero, suc, ◌+◌, ◌<◌, ◌≤◌, List, [], ◌∷◌, ◌++◌, length, refl, arith}
+use Rattle.std.proofs.Common.{ℕ, zero, suc, ◌<◌, ◌≤◌, List, [], ◌∷◌, ◌++◌, length, arith}
 use Rattle.std.proofs.lemmas.List.{length-append}
-use Rattle.txn_text.specs.declared.kinds.Token.{Token}
 use Rattle.txn_parse.specs.declared.symbols.Symbol.TheVariants as symbol
 use Rattle.txn_parse.specs.Symbols.{Lexeme, lexeme}
 use Rattle.txn_parse.specs.Tree.{Term, Command, Commands}

@@ -1,7 +1,7 @@
 -- What is open in an expression stands for the tokens that were read, and some expression begins with them.
-use Rattle.std.proofs.Common.{◌≡◌, ℕ, zero, suc, ◌+◌, ◌-◌, ◌<◌, ◌≤◌, ◌==◌, ◌&&◌, ◌||◌, not, ltb, leb, eqb, Bool, true, false, cond, List, [], ◌∷◌, ◌++◌, length, Option, Some, None, refl, sym, ap, ◌∙◌, subst, arith, inl, inr, ⊎_elim}
+use Rattle.std.proofs.Common.{◌≡◌, ℕ, zero, suc, ◌+◌, ◌-◌, ◌<◌, ◌≤◌, ◌==◌, ◌&&◌, ◌||◌, ltb, leb, Bool, true, false, List, [], ◌∷◌, ◌++◌, Some, refl, sym, ap, ◌∙◌, subst, arith, ⊎_elim}
 use Rattle.std.proofs.lemmas.List.{append_assoc, append-nil}
-use Rattle.std.proofs.lemmas.Bool.{cond_both, leb-true, leb-false, eqb-true, eqb-false, true≢false, false≢true, cases_Bool, cases_lt, not-true, and_left, eq-eqb, ne_eqb, lt-ltb}
+use Rattle.std.proofs.lemmas.Bool.{cond_both, leb-true, leb-false, eqb-true, eqb-false, false≢true, cases_Bool, cases_lt, not-true, and_left, eq-eqb, ne_eqb, lt-ltb}
 use Rattle.txn_lang.specs.declared.tree.BinOp.{BinOp}
 use Rattle.txn_lang.specs.declared.tree.BinOp.TheVariants as op
 use Rattle.txn_text.specs.declared.kinds.Token.{Token}
@@ -141,11 +141,11 @@ rest_chains_not : (n m : ℕ) (c : Bool) → n ≤ m → (n == 3 && (m == 3 || (
 rest_chains_not n m c below free =
     ⊎_elim
     (λ is.
-        let four = chains_not n m c below free (eqb-true n 3 is) in
-        let apart : (m == 3) ≡ false = ne_eqb m 3 (λ e. omega (arith, four, e)) in
-        let tight : ltb 3 m ≡ true = lt-ltb 3 m (omega (arith, four)) in
-        let inner : (m == 3 || (ltb 3 m && c)) ≡ c = ap (λ x. x || (ltb 3 m && c)) apart ∙ ap (λ x. x && c) tight in
-        ap (λ x. n == 3 && x) (sym inner) ∙ free)
+    let four = chains_not n m c below free (eqb-true n 3 is) in
+    let apart : (m == 3) ≡ false = ne_eqb m 3 (λ e. omega (arith, four, e)) in
+    let tight : ltb 3 m ≡ true = lt-ltb 3 m (omega (arith, four)) in
+    let inner : (m == 3 || (ltb 3 m && c)) ≡ c = ap (λ x. x || (ltb 3 m && c)) apart ∙ ap (λ x. x && c) tight in
+    ap (λ x. n == 3 && x) (sym inner) ∙ free)
     (λ no. and_left (n == 3) c no)
     (cases_Bool (n == 3))
 
@@ -160,13 +160,13 @@ joined_stands (Paren up) q es e k o' t s u d above left chained =
 joined_stands (Infix a earlier up) q es e k o' t s u d above left chained =
     cond_both (leb (level_of o') (level_of earlier)) (joined up (Bin earlier a e) o') (Infix e o' (Infix a earlier up)) (λ x. Stands x ((q ++ es) ++ lexeme (symbol.Op o') t ∷ []))
     (λ tight.
-        let below = leb-true _ _ tight in
-        let whole_d = between earlier s.1 s.3.1 es a e s.3.4 (loosened k (suc (level_of earlier)) es e above d) in
-        let tokens = infix_tokens q (s.0) (s.3.0) (s.3.1) es (lexeme (symbol.Op earlier) s.1) s.2 s.3.2 in
-        let apart : (level_of o' ≡ 3) → 4 ≤ level_of earlier = chains_not (level_of o') (level_of earlier) (compares up) below chained in
-        let rest_chained : (level_of o' == 3 && compares up) ≡ false = rest_chains_not (level_of o') (level_of earlier) (compares up) below chained in
-        subst (λ x. Stands (joined up (Bin earlier a e) o') (x ++ lexeme (symbol.Op o') t ∷ [])) (sym tokens)
-        (joined_stands up s.3.0 (s.3.1 ++ lexeme (symbol.Op earlier) s.1 ∷ es) (Bin earlier a e) (level_of earlier) o' t s.3.3 (unsigned_below up (level_of earlier) s.3.5 (level_most earlier)) whole_d s.3.5 (left_level_most (level_of o') (level_of earlier) below apart) rest_chained))
+    let below = leb-true _ _ tight in
+    let whole_d = between earlier s.1 s.3.1 es a e s.3.4 (loosened k (suc (level_of earlier)) es e above d) in
+    let tokens = infix_tokens q (s.0) (s.3.0) (s.3.1) es (lexeme (symbol.Op earlier) s.1) s.2 s.3.2 in
+    let apart : (level_of o' ≡ 3) → 4 ≤ level_of earlier = chains_not (level_of o') (level_of earlier) (compares up) below chained in
+    let rest_chained : (level_of o' == 3 && compares up) ≡ false = rest_chains_not (level_of o') (level_of earlier) (compares up) below chained in
+    subst (λ x. Stands (joined up (Bin earlier a e) o') (x ++ lexeme (symbol.Op o') t ∷ [])) (sym tokens)
+    (joined_stands up s.3.0 (s.3.1 ++ lexeme (symbol.Op earlier) s.1 ∷ es) (Bin earlier a e) (level_of earlier) o' t s.3.3 (unsigned_below up (level_of earlier) s.3.5 (level_most earlier)) whole_d s.3.5 (left_level_most (level_of o') (level_of earlier) below apart) rest_chained))
     (λ loose. (q ++ es, t, refl, (q, es, refl, s, loosened k _ es e left d, leb-false _ _ loose)))
 
 closed_stands : (o : Opened) (q es : List Lexeme) (e : Term) (k : ℕ) (u : Token) → Stands o q → IsExpr k es e → top o < k → has_paren o ≡ true → StandsState (closed o e) (q ++ (es ++ lexeme symbol.CloseParen u ∷ []))

@@ -1,17 +1,15 @@
 -- The laws of whole blocks.
-use Rattle.std.proofs.Common.{◌≡◌, ℕ, zero, suc, ◌+◌, ◌-◌, ◌<◌, ◌≤◌, ◌⊎◌, max, List, [], ◌∷◌, ◌++◌, length, take, drop, map, Result, Ok, Err, refl, sym, ap, ◌∙◌, subst, arith, inl, inr}
+use Rattle.std.proofs.Common.{◌≡◌, ℕ, ◌+◌, ◌-◌, ◌≤◌, List, [], ◌∷◌, ◌++◌, length, take, drop, Ok, Err, sym, ap, ◌∙◌, subst, arith, inl, inr}
 use Rattle.std.proofs.lemmas.List.{append_assoc, append-nil, length-append, length-map, length-drop, take_at, drop_at, take-map, drop-map, drop-drop}
 use Rattle.txn_text.specs.declared.kinds.Token.{Token}
-use Rattle.txn_text.specs.declared.faults.FaultKind.TheVariants as fault
 use Rattle.txn_text.specs.declared.faults.TextFault.{TextFault}
-use Rattle.txn_text.specs.declared.faults.TextFault.TheVariants.{At}
 use Rattle.txn_parse.specs.Symbols.{Lexeme, lexemes}
 use Rattle.txn_parse.specs.Tree.{Commands, End}
-use Rattle.txn_parse.specs.Grammar.{Limits, Free, Within, IsBlock}
+use Rattle.txn_parse.specs.Grammar.{Free, Within, IsBlock}
 use Rattle.txn_parse.specs.Reading.{Found, syntax_at, block_at}
-use Rattle.txn_parse.specs.Laws.{Begins, IsFirstBad, IsOneTooMany, IsFault, FoundIsDerived, DerivedIsFound, HasOneTree, FaultIsFirst}
+use Rattle.txn_parse.specs.Laws.{IsFirstBad, IsOneTooMany, IsFault, FoundIsDerived, DerivedIsFound, HasOneTree, FaultIsFirst}
 use Rattle.txn_parse.proofs.Freeing.{free_block, bound_block}
-use Rattle.txn_parse.proofs.Finding.{IsFound, IsBad, IsOver, Answers, SameFirst, first_of}
+use Rattle.txn_parse.proofs.Finding.{IsBad, IsOver, Answers, SameFirst, first_of}
 use Rattle.txn_parse.proofs.FindingBlocks.{block_answers}
 use Rattle.txn_parse.proofs.DerivingBlocks.{reads_block}
 
@@ -71,11 +69,11 @@ first_bad last ls f one = record {
   place = one.place;
   begun = one.begun;
   bad = λ l more is begun.
-    let whole = (one.front ++ l ∷ []) ++ begun.0 in
-    let tokens : whole ≡ one.front ++ (l ∷ begun.0) = append_assoc one.front (l ∷ []) begun.0 in
-    let read = read_free last whole [] begun.1 begun.2 (64 + length whole) (32 + length whole) (omega arith) (omega arith) in
-    let fails = one.again (record { room = 64 + length whole; depth = 32 + length whole; rooms = omega arith; depths = omega arith }) (l ∷ begun.0) (first_same one.rest l more begun.0 is) in
-    differ last (64 + length whole) (32 + length whole) whole (one.front ++ (l ∷ begun.0)) begun.1 (syntax_at last (l ∷ begun.0)) tokens read fails;
+      let whole = (one.front ++ l ∷ []) ++ begun.0 in
+      let tokens : whole ≡ one.front ++ (l ∷ begun.0) = append_assoc one.front (l ∷ []) begun.0 in
+      let read = read_free last whole [] begun.1 begun.2 (64 + length whole) (32 + length whole) (omega arith) (omega arith) in
+      let fails = one.again (record { room = 64 + length whole; depth = 32 + length whole; rooms = omega arith; depths = omega arith }) (l ∷ begun.0) (first_same one.rest l more begun.0 is) in
+      differ last (64 + length whole) (32 + length whole) whole (one.front ++ (l ∷ begun.0)) begun.1 (syntax_at last (l ∷ begun.0)) tokens read fails;
 }
 
 over : (ls : List Lexeme) (f : TextFault) → IsOver (IsBlock Free) ls f → IsOneTooMany (IsBlock Free) ls f
@@ -96,7 +94,8 @@ place_found text toks behind from front within split =
     let whole : length (drop from toks) ≡ length front + length behind = sym (length-map (drop from toks) _) ∙ ap length split ∙ length-append front (lexemes text behind) ∙ ap (λ n. length front + n) (length-map behind _) in
     let dropped = length-drop from toks in
     let here : length front ≡ length toks - length behind - from = omega (arith, whole, dropped, within) in
-    let there : from + (length toks - length behind - from) ≡ length toks - length behind = omega (arith, whole, dropped, within) in
-    ( sym (take_at front (lexemes text behind) _ here) ∙ ap (take (length toks - length behind - from)) (sym split) ∙ take-map _ (length toks - length behind - from) (drop from toks)
-    , sym (drop_at front (lexemes text behind) _ here) ∙ ap (drop (length toks - length behind - from)) (sym split) ∙ drop-map _ (length toks - length behind - from) (drop from toks) ∙ ap (lexemes text) (drop-drop (length toks - length behind - from) from toks ∙ ap (λ n. drop n toks) there)
-    , omega (arith, whole, dropped, within) )
+    let there : from + (length toks - length behind - from) ≡ length toks - length behind = omega (arith, whole, dropped, within) in (
+      sym (take_at front (lexemes text behind) _ here) ∙ ap (take (length toks - length behind - from)) (sym split) ∙ take-map _ (length toks - length behind - from) (drop from toks),
+      sym (drop_at front (lexemes text behind) _ here) ∙ ap (drop (length toks - length behind - from)) (sym split) ∙ drop-map _ (length toks - length behind - from) (drop from toks) ∙ ap (lexemes text) (drop-drop (length toks - length behind - from) from toks ∙ ap (λ n. drop n toks) there),
+      omega (arith, whole, dropped, within),
+    )

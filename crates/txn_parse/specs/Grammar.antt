@@ -52,22 +52,22 @@ pub record IsOutermost (limits : Limits) (ls : List Lexeme) (e : Term) : Type 0 
 mutual
   pub data IsStmt : Limits → List Lexeme → Command → Type 0 where
     sets : (lim : Limits) (w v s : Token) (ls : List Lexeme) (e : Term) → IsOutermost lim ls e →
-      IsStmt lim (lexeme symbol.Let w ∷ lexeme symbol.Name v ∷ lexeme symbol.Assign s ∷ ls) (Let v e)
+        IsStmt lim (lexeme symbol.Let w ∷ lexeme symbol.Name v ∷ lexeme symbol.Assign s ∷ ls) (Let v e)
     reads : (lim : Limits) (w v t x y : Token) (ls : List Lexeme) (i : Term) → IsOutermost lim ls i →
-      IsStmt lim (lexeme symbol.Read w ∷ lexeme symbol.Name v ∷ lexeme symbol.Name t ∷ lexeme symbol.OpenIndex x ∷ (ls ++ lexeme symbol.CloseIndex y ∷ [])) (Read v t i)
+        IsStmt lim (lexeme symbol.Read w ∷ lexeme symbol.Name v ∷ lexeme symbol.Name t ∷ lexeme symbol.OpenIndex x ∷ (ls ++ lexeme symbol.CloseIndex y ∷ [])) (Read v t i)
     writes : (lim : Limits) (w t x y : Token) (ls ms : List Lexeme) (i e : Term) → IsOutermost lim ls i → IsOutermost lim ms e →
-      IsStmt lim (lexeme symbol.Write w ∷ lexeme symbol.Name t ∷ lexeme symbol.OpenIndex x ∷ (ls ++ lexeme symbol.CloseIndex y ∷ ms)) (Write t i e)
+        IsStmt lim (lexeme symbol.Write w ∷ lexeme symbol.Name t ∷ lexeme symbol.OpenIndex x ∷ (ls ++ lexeme symbol.CloseIndex y ∷ ms)) (Write t i e)
     prints : (lim : Limits) (w : Token) (ls : List Lexeme) (e : Term) → IsOutermost lim ls e → IsStmt lim (lexeme symbol.Print w ∷ ls) (Print e)
     chooses : (lim : Limits) (w : Token) (ls ms : List Lexeme) (e : Term) (a : Commands) → IsOutermost lim ls e → IsBlock lim ms a →
-      IsStmt lim (lexeme symbol.If w ∷ (ls ++ ms)) (If e a End)
+        IsStmt lim (lexeme symbol.If w ∷ (ls ++ ms)) (If e a End)
     chooses_else : (lim : Limits) (w x : Token) (ls ms ns : List Lexeme) (e : Term) (a b : Commands) → IsOutermost lim ls e → IsBlock lim ms a → IsBlock lim ns b →
-      IsStmt lim (lexeme symbol.If w ∷ (ls ++ (ms ++ lexeme symbol.Else x ∷ ns))) (If e a b)
+        IsStmt lim (lexeme symbol.If w ∷ (ls ++ (ms ++ lexeme symbol.Else x ∷ ns))) (If e a b)
     repeats : (lim : Limits) (w n : Token) (ls : List Lexeme) (body : Commands) → IsBlock lim ls body → IsStmt lim (lexeme symbol.Repeat w ∷ lexeme symbol.Number n ∷ ls) (Repeat n body)
     aborts : (lim : Limits) (w : Token) → IsStmt lim (lexeme symbol.Abort w ∷ []) Abort
 
   pub data IsBlock : Limits → List Lexeme → Commands → Type 0 where
     braced : (lim : Limits) (x y : Token) (ls : List Lexeme) (cs : Commands) → MayOpen lim → IsStmts (inside lim) ls cs →
-      IsBlock lim (lexeme symbol.OpenBlock x ∷ (ls ++ lexeme symbol.CloseBlock y ∷ [])) cs
+        IsBlock lim (lexeme symbol.OpenBlock x ∷ (ls ++ lexeme symbol.CloseBlock y ∷ [])) cs
 
   pub data IsStmts : Limits → List Lexeme → Commands → Type 0 where
     last : (lim : Limits) (ls : List Lexeme) (c : Command) → IsStmt lim ls c → IsStmts lim ls (Then c End)

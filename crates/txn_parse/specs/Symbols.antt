@@ -1,5 +1,5 @@
 -- What the grammar of blocks sees of a text's tokens.
-use Rattle.std.specs.Prelude.{ℕ, Bool, ◌==◌, List, [], ◌∷◌, codes, map, if◌then◌else◌}
+use Rattle.std.specs.Prelude.{ℕ, Bool, ◌==◌, List, codes, map, if◌then◌else◌}
 use Rattle.std.specs.Str.{bytes_eq}
 use Rattle.txn_lang.specs.declared.tree.BinOp.TheVariants as op
 use Rattle.txn_text.specs.declared.kinds.Token.{Token}

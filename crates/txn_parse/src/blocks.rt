@@ -5,7 +5,9 @@ ghost use Rattle.txn_parse.specs.Reading.{else_at, if_at, repeat_at, stmt_at, bl
 ghost use Rattle.txn_parse.specs.Gives.{Gives};
 
 use crate::expressions::{expression, syntax, take};
-use crate::statements::{let_statement, print_statement, read_statement, separator, write_statement};
+use crate::statements::{
+    let_statement, print_statement, read_statement, separator, write_statement,
+};
 use crate::symbols::{Symbol, is, symbol_of};
 use crate::tree::{RawBlock, RawStmt};
 use morty_base::List;
@@ -26,8 +28,15 @@ fn else_block<'a>(
     ensures no_longer { IfOk result (λ x. length x.1.now ≤ length toks.now) }
 {
     match toks.split_first() {
-        Some((token, rest)) if is(symbol_of(text, *token), Symbol::Else) => block(alloc, text, last, rest, depth),
-        _ => Ok((RawBlock { stmts: List::new(alloc) }, toks)),
+        Some((token, rest)) if is(symbol_of(text, *token), Symbol::Else) => block(
+            alloc, text, last, rest, depth,
+        ),
+        _ => Ok((
+            RawBlock {
+                stmts: List::new(alloc),
+            },
+            toks,
+        )),
     }
 }
 
@@ -110,7 +119,10 @@ pub fn block<'a>(
 {
     let (brace, behind) = take(text, last, toks, Symbol::OpenBlock)?;
     if depth == 0 {
-        return Err(TextFault::At { line: brace.line, kind: FaultKind::Deep });
+        return Err(TextFault::At {
+            line: brace.line,
+            kind: FaultKind::Deep,
+        });
     }
     let mut rest = behind;
     let mut stmts = List::new(alloc);

@@ -16,8 +16,14 @@ pub fn syntax(last: u32, toks: &[Token]) -> TextFault
     ensures { (text : List ℕ) → result ≡ syntax_at last (lexemes text toks.now) }
 {
     match toks.first() {
-        Some(token) => TextFault::At { line: token.line, kind: FaultKind::Syntax },
-        None => TextFault::At { line: last, kind: FaultKind::EndOfText },
+        Some(token) => TextFault::At {
+            line: token.line,
+            kind: FaultKind::Syntax,
+        },
+        None => TextFault::At {
+            line: last,
+            kind: FaultKind::EndOfText,
+        },
     }
 }
 
@@ -54,7 +60,10 @@ fn go_on<'a>(
         let symbol = symbol_of(text, *token);
         if goes_on(&at, symbol) {
             if room == 0 {
-                return Err(TextFault::At { line: token.line, kind: FaultKind::LongExpression });
+                return Err(TextFault::At {
+                    line: token.line,
+                    kind: FaultKind::LongExpression,
+                });
             }
             let next = step(at, symbol, *token, alloc)?;
             return go_on(alloc, text, last, next, rest, room - 1);

@@ -12,3 +12,6 @@ mod tree;
 pub use program::{grammar_laws, parse_prog};
 pub use symbols::{Symbol, symbol_of};
 pub use tree::{RawBlock, RawExpr, RawProg, RawStmt};
+
+#[cfg(test)]
+mod tests;

@@ -151,7 +151,12 @@ pub fn goes_on(at: &Reading, symbol: Symbol) -> bool
     }
 }
 
-fn operand_step(held: Open, symbol: Symbol, token: Token, alloc: Global) -> Result<Reading, NoMemory>
+fn operand_step(
+    held: Open,
+    symbol: Symbol,
+    token: Token,
+    alloc: Global,
+) -> Result<Reading, NoMemory>
     ensures { IfOk result (λ r. state_of r ≡ operand_step (opened held) symbol token) }
 {
     match symbol {

@@ -40,7 +40,13 @@ pub fn parse_prog(
     let last = last_line(text);
     let rest = &toks[from..];
     let (body, behind) = block(alloc, text, last, rest, 32)?;
-    Ok((RawProg { brace: toks[from], body }, toks.len() - behind.len()))
+    Ok((
+        RawProg {
+            brace: toks[from],
+            body,
+        },
+        toks.len() - behind.len(),
+    ))
 }
 
 /// The reading of blocks and their grammar agree: what is found is in the grammar, what is in the grammar is found, no
@@ -50,5 +56,4 @@ pub fn grammar_laws()
     ensures derived { DerivedIsFound }
     ensures one_tree { HasOneTree }
     ensures first { FaultIsFirst }
-{
-}
+{}

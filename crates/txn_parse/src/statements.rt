@@ -92,7 +92,11 @@ fn more<'a>(text: &[u8], toks: &'a [Token]) -> (bool, &'a [Token])
 
 /// Behind a statement: whether one more follows.
 #[tactic(auto, unfolding(crate::specs::Reading::separator_at))]
-pub fn separator<'a>(text: &[u8], last: u32, toks: &'a [Token]) -> Result<(bool, &'a [Token]), TextFault>
+pub fn separator<'a>(
+    text: &[u8],
+    last: u32,
+    toks: &'a [Token],
+) -> Result<(bool, &'a [Token]), TextFault>
     ensures found { Gives (λ x. (x.0, lexemes text.now x.1.now)) result (separator_at last (lexemes text.now toks.now)) }
     ensures no_longer { IfOk result (λ x. length x.1.now ≤ length toks.now) }
 {

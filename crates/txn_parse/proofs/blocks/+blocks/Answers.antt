@@ -1,4 +1,4 @@
-use Rattle.std.proofs.Common.{◌≡◌, ◌∙◌, ◌≤◌, ◌<◌, ◌+◌, ◌-◌, ℕ, suc, Bool, sym, ap, subst, refl, arith, length, map, Result, Ok, Err, List, [], ◌∷◌, ◌++◌, false, true, Bor}
+use Rattle.std.proofs.Common.{◌≡◌, ◌∙◌, ◌≤◌, ◌+◌, ◌-◌, ℕ, suc, Bool, sym, ap, arith, length, map, Ok, List, [], ◌∷◌, ◌++◌, false, true, Bor}
 use Rattle.std.proofs.lemmas.List.{length-map, map_push, length_push}
 use Rattle.std.proofs.lemmas.Result.{err_from_is_err_and}
 use Rattle.txn_text.specs.declared.kinds.Token.{Token}
@@ -6,7 +6,7 @@ use Rattle.txn_parse.specs.declared.tree.RawStmt.{RawStmt}
 use Rattle.txn_parse.specs.declared.tree.RawBlock.{RawBlock}
 use Rattle.txn_parse.specs.Tree.{Command, Commands, command, commands, commands_of, before, End, Then}
 use Rattle.txn_parse.specs.Symbols.{Lexeme, lexemes}
-use Rattle.txn_parse.specs.Reading.{Found, block_at, stmts_at, separator_at}
+use Rattle.txn_parse.specs.Reading.{Found, stmts_at, separator_at}
 use Rattle.txn_parse.proofs.Loops.{with_stmts, before_push, with_stmts_push, stmts_err, stmts_separator_err, stmts_more, stmts_last, gives_err, brace_err, brace_deep, inner, loop_state}
 use Rattle.txn_parse.proofs.blocks.+blocks.Goals as goal
 
@@ -85,10 +85,10 @@ block-stmts-preserved t c =
     record {
       fewer = omega (arith, longer, c.stmts.invariant.fewer, c.in_ok-stmt.ensures.shorter, c.in_ok-more.ensures.no_longer);
       so_far =
-        ap (λ l. with_stmts l (stmts_at c.args.last S (length all + 1 - length new) later)) (ap (map command) is ∙ map_push command c.stmts.stmts c.in_ok-stmt.stmt)
-        ∙ ap (λ n. with_stmts (front ++ command c.in_ok-stmt.stmt ∷ []) (stmts_at c.args.last S n later)) (let e : length all + 1 - length new ≡ length all - k = omega (arith, longer) in e)
-        ∙ sym (with_stmts_push front (command c.in_ok-stmt.stmt) (stmts_at c.args.last S (length all - k) later))
-        ∙ ap (with_stmts front) (sym turn)
-        ∙ ap (λ n. with_stmts front (stmts_at c.args.last S n now)) (let e : suc (length all - k) ≡ length all + 1 - k = omega (arith, fewer) in e)
-        ∙ c.stmts.invariant.so_far;
+          ap (λ l. with_stmts l (stmts_at c.args.last S (length all + 1 - length new) later)) (ap (map command) is ∙ map_push command c.stmts.stmts c.in_ok-stmt.stmt)
+          ∙ ap (λ n. with_stmts (front ++ command c.in_ok-stmt.stmt ∷ []) (stmts_at c.args.last S n later)) (let e : length all + 1 - length new ≡ length all - k = omega (arith, longer) in e)
+          ∙ sym (with_stmts_push front (command c.in_ok-stmt.stmt) (stmts_at c.args.last S (length all - k) later))
+          ∙ ap (with_stmts front) (sym turn)
+          ∙ ap (λ n. with_stmts front (stmts_at c.args.last S n now)) (let e : suc (length all - k) ≡ length all + 1 - k = omega (arith, fewer) in e)
+          ∙ c.stmts.invariant.so_far;
     }

@@ -1,4 +1,4 @@
-use Rattle.std.proofs.Common.{◌≡◌, ◌∙◌, ◌≤◌, ◌-◌, ◌++◌, ℕ, sym, ap, subst, refl, arith, length, take, drop, Ok, Err, List, Bor, Result}
+use Rattle.std.proofs.Common.{◌≡◌, ◌∙◌, ◌≤◌, ◌-◌, ℕ, sym, ap, subst, length, take, drop, Ok, Err, List, Bor}
 use Rattle.std.proofs.lemmas.List.{take_rest}
 use Rattle.std.proofs.lemmas.Result.{err_from_is_err_and}
 use Rattle.txn_text.specs.declared.kinds.Token.{Token}
@@ -35,16 +35,17 @@ found : (text : List ℕ) (toks behind : List Token) (from : ℕ) (b : Commands)
     (block_of text toks from ≡ Ok (b, lexemes text (drop (length toks - length behind) toks))) × IsBlock (Within 64 32) (lexemes text (take (length toks - length behind - from) (drop from toks))) b
 found text toks behind from b within is =
     let d = found_is_derived (last_line text) (lexemes text (drop from toks)) b (lexemes text behind) is in
-    let p = place_found text toks behind from d.0 within d.1 in
-    ( is ∙ ap (λ (x : List Lexeme). let f : Found Commands = Ok (b, x) in f) p.1
-    , subst (λ x. IsBlock (Within 64 32) x b) p.0 d.2 )
+    let p = place_found text toks behind from d.0 within d.1 in (
+      is ∙ ap (λ (x : List Lexeme). let f : Found Commands = Ok (b, x) in f) p.1,
+      subst (λ x. IsBlock (Within 64 32) x b) p.0 d.2,
+    )
 
 pub returns-clause-exact : goal.returns-clause-exact
 returns-clause-exact c =
     (found c.args.text.now c.args.toks.now c.in_ok-body.behind.now c.args.from (commands c.in_ok-body.body) c.requires.within
-      (reads c.args.text.now c.args.toks.now c.args.from c.last_line-last.result _ c.last_line-last.ensures c.in_ok-body.ensures.found)).0
+    (reads c.args.text.now c.args.toks.now c.args.from c.last_line-last.result _ c.last_line-last.ensures c.in_ok-body.ensures.found)).0
 
 pub returns-clause-derived : goal.returns-clause-derived
 returns-clause-derived c =
     (found c.args.text.now c.args.toks.now c.in_ok-body.behind.now c.args.from (commands c.in_ok-body.body) c.requires.within
-      (reads c.args.text.now c.args.toks.now c.args.from c.last_line-last.result _ c.last_line-last.ensures c.in_ok-body.ensures.found)).1
+    (reads c.args.text.now c.args.toks.now c.args.from c.last_line-last.result _ c.last_line-last.ensures c.in_ok-body.ensures.found)).1
