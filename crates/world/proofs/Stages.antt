@@ -4,7 +4,8 @@ use Rattle.world.specs.declared.stage.Slot.{Slot}
 use Rattle.world.specs.declared.stage.Slot.TheVariants.{Client, Replica}
 use Rattle.world.specs.declared.stage.Stage.{Stage}
 use Rattle.world.specs.declared.stage.Stage.TheVariants.{Unbegun, Begun, Asking, Answering, Answered, Putting, Preparing, Voted, Decided, Committed}
-use Rattle.world.specs.Stage.{waits_for, other_of, rank}
+use Rattle.world.specs.Rows.{moved}
+use Rattle.world.specs.Stage.{waits_for, other_of, event_of, rank}
 
 -- a stage that ends by some node's turn is not the last one
 pub moves_on : (stage : Stage) (slot : Slot) → waits_for stage slot ≡ true → 0 < rank stage
@@ -40,3 +41,16 @@ at_the_end (Voted c) Replica p q = cc
 at_the_end (Decided c) Client p q = cc
 at_the_end (Decided c) Replica p q = cc
 at_the_end (Committed c) slot p q = refl
+
+-- the event that ends a stage before the last moves something
+pub moves_something : (stage : Stage) → 0 < rank stage → moved (event_of stage) ≡ true
+moves_something Unbegun h = refl
+moves_something Begun h = refl
+moves_something Asking h = refl
+moves_something Answering h = refl
+moves_something Answered h = refl
+moves_something (Putting c) h = refl
+moves_something (Preparing c) h = refl
+moves_something (Voted c) h = refl
+moves_something (Decided c) h = refl
+moves_something (Committed c) h = absurd (omega arith)

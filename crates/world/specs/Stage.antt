@@ -1,7 +1,11 @@
 -- The stages of the run: whose turn ends each, what content is under way, and how far it is from the end.
-use Rattle.std.specs.Prelude.{◌≡◌, ℕ, ⊤, Bool, true, false, if◌then◌else◌, List, [], ◌∷◌, ℤ, ◌+ℤ◌}
+use Rattle.std.specs.Prelude.{◌≡◌, ℕ, ◌+◌, ⊤, Bool, true, false, if◌then◌else◌, List, [], ◌∷◌, ℤ, ◌+ℤ◌}
 use Rattle.morty_base.specs.declared.names.Ending.TheVariants.{Done, Overflow}
+use Rattle.morty_base.specs.declared.names.Ending.{Ending}
 use Rattle.msg.specs.declared.Content.{Content}
+use Rattle.msg.specs.declared.Event.{Event}
+use Rattle.msg.specs.declared.Event.TheVariants.{Picked, Ran}
+use Rattle.msg.specs.declared.Pick.TheVariants.{Idle, Deliver, Go}
 use Rattle.txn_lang.specs.Value.{fits_word}
 use Rattle.world.specs.declared.script.FirstScript.{FirstScript}
 use Rattle.morty_base.specs.declared.names.NodeId.{NodeId}
@@ -52,6 +56,28 @@ rank (Preparing c) = 3
 rank (Voted c) = 2
 rank (Decided c) = 1
 rank (Committed c) = 0
+
+abbrev pub is_done : Ending → Bool
+is_done Done = true
+is_done _ = false
+
+-- the number of the envelope that asks for a vote on the content: a question, its answer and, where there are writes,
+-- these stand before it
+abbrev pub prepare_at : Content → ℕ
+prepare_at c = if is_done c.ending then 3 else 2
+
+-- the event that ends a stage
+abbrev pub event_of : Stage → Event
+event_of Unbegun = Picked (nodes.Client 1) Go
+event_of Begun = Ran 1
+event_of Asking = Picked (nodes.Replica 1) (Deliver 0)
+event_of Answering = Picked (nodes.Client 1) (Deliver 1)
+event_of Answered = Ran 1
+event_of (Putting c) = Picked (nodes.Replica 1) (Deliver 2)
+event_of (Preparing c) = Picked (nodes.Replica 1) (Deliver (prepare_at c))
+event_of (Voted c) = Picked (nodes.Client 1) (Deliver (prepare_at c + 1))
+event_of (Decided c) = Picked (nodes.Replica 1) (Deliver (prepare_at c + 2))
+event_of (Committed c) = Picked (nodes.Client 1) Idle
 
 abbrev pub is_client : Slot → Bool
 is_client Client = true

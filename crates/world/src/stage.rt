@@ -1,8 +1,8 @@
-ghost use Rattle.std.specs.Prelude.{◌≡◌, ◌<◌, IfOk, true};
+ghost use Rattle.std.specs.Prelude.{◌≡◌, ◌<◌, IfOk};
 ghost use Rattle.world.specs.Script.{cell as cell_of};
-ghost use Rattle.world.specs.Rows.{read_first, moved};
+ghost use Rattle.world.specs.Rows.{read_first};
 ghost use Rattle.world.specs.declared.script.FirstScript.{FirstScript as FirstScriptValue};
-ghost use Rattle.world.specs.Stage.{content_of, IsReached, waits_for as waits_for_of, node_of, other_of, rank};
+ghost use Rattle.world.specs.Stage.{content_of, IsReached, waits_for as waits_for_of, node_of, other_of, prepare_at, event_of, rank};
 
 use crate::list::one;
 use crate::script::{FirstScript, cell};
@@ -79,7 +79,7 @@ pub fn waits_for(stage: &Stage, slot: Slot) -> bool
 
 /// The number of the envelope that asks for a vote on the content: one with writes follows them.
 fn prepare_number(content: &Content) -> u64
-    ensures { result < 4 }
+    ensures { result ≡ prepare_at content.now }
 {
     match content.ending {
         Ending::Done => 3,
@@ -87,9 +87,9 @@ fn prepare_number(content: &Content) -> u64
     }
 }
 
-/// The event that ends the stage.
+/// The event that ends the stage. At the end nothing is left to do.
 pub fn event(stage: &Stage) -> Event
-    ensures { moved result ≡ true }
+    ensures { result ≡ event_of stage.now }
 {
     match stage {
         Stage::Unbegun => Event::Picked(NodeId::Client(1), Pick::Go),
@@ -105,12 +105,11 @@ pub fn event(stage: &Stage) -> Event
             NodeId::Client(1),
             Pick::Deliver(prepare_number(content) + 1),
         ),
-        Stage::Decided(content) | Stage::Committed(content) => {
-            Event::Picked(
-                NodeId::Replica(1),
-                Pick::Deliver(prepare_number(content) + 2),
-            )
-        }
+        Stage::Decided(content) => Event::Picked(
+            NodeId::Replica(1),
+            Pick::Deliver(prepare_number(content) + 2),
+        ),
+        Stage::Committed(_) => Event::Picked(NodeId::Client(1), Pick::Idle),
     }
 }
 
