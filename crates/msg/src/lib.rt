@@ -236,7 +236,105 @@ pub fn copy_kept(alloc: Global, kept: &[Kept]) -> Result<List<Kept>, NoMemory>
     Ok(copied)
 }
 
+fn copy_puts(alloc: Global, exec: Exec, writes: &List<Write>) -> Result<Body, NoMemory>
+    ensures { IfOk result (λ b. b ≡ Body.Puts exec writes.now) }
+{
+    let writes = writes.copy(alloc)?;
+    Ok(Body::Puts { exec, writes })
+}
+
+fn copy_prepare(alloc: Global, exec: Exec, content: &Content) -> Result<Body, NoMemory>
+    ensures { IfOk result (λ b. b ≡ Body.Prepare exec content.now) }
+{
+    let content = content.copy(alloc)?;
+    Ok(Body::Prepare { exec, content })
+}
+
+fn copy_finalize(
+    alloc: Global,
+    exec: Exec,
+    view: u32,
+    choice: Choice,
+    content: &Option<Content>,
+) -> Result<Body, NoMemory>
+    ensures { IfOk result (λ b. b ≡ Body.Finalize exec view choice content.now) }
+{
+    let content = copy_content(alloc, content)?;
+    Ok(Body::Finalize {
+        exec,
+        view,
+        choice,
+        content,
+    })
+}
+
+fn copy_decide(
+    alloc: Global,
+    exec: Exec,
+    choice: Choice,
+    content: &Option<Content>,
+) -> Result<Body, NoMemory>
+    ensures { IfOk result (λ b. b ≡ Body.Decide exec choice content.now) }
+{
+    let content = copy_content(alloc, content)?;
+    Ok(Body::Decide {
+        exec,
+        choice,
+        content,
+    })
+}
+
+fn copy_told(
+    alloc: Global,
+    exec: Exec,
+    view: u32,
+    vote: Option<Vote>,
+    accepted: Option<Accept>,
+    decided: Option<Choice>,
+    content: &Option<Content>,
+) -> Result<Body, NoMemory>
+    ensures { IfOk result (λ b. b ≡ Body.Told exec view vote accepted decided content.now) }
+{
+    let content = copy_content(alloc, content)?;
+    Ok(Body::Told {
+        exec,
+        view,
+        vote,
+        accepted,
+        decided,
+        content,
+    })
+}
+
+fn copy_fenced(
+    alloc: Global,
+    w: Version,
+    base: &List<BaseEntry>,
+    committed: &List<Kept>,
+    voted: &List<Kept>,
+) -> Result<Body, NoMemory>
+    ensures { IfOk result (λ b. b ≡ Body.Fenced w base.now committed.now voted.now) }
+{
+    let base = base.copy(alloc)?;
+    let committed = copy_kept(alloc, committed.as_slice())?;
+    let voted = copy_kept(alloc, voted.as_slice())?;
+    Ok(Body::Fenced {
+        w,
+        base,
+        committed,
+        voted,
+    })
+}
+
+fn copy_drop(alloc: Global, w: Version, base: &List<BaseEntry>) -> Result<Body, NoMemory>
+    ensures { IfOk result (λ b. b ≡ Body.Drop w base.now) }
+{
+    let base = base.copy(alloc)?;
+    Ok(Body::Drop { w, base })
+}
+
 impl Body {
+    /// A value equal to this one, with memory of its own.
     pub fn copy(&self, alloc: Global) -> Result<Body, NoMemory>
         ensures { IfOk result (λ b. b ≡ self.now) }
     {
@@ -260,20 +358,8 @@ impl Body {
                 sure: *sure,
                 gone: *gone,
             }),
-            Body::Puts { exec, writes } => {
-                let writes = writes.copy(alloc)?;
-                Ok(Body::Puts {
-                    exec: *exec,
-                    writes,
-                })
-            }
-            Body::Prepare { exec, content } => {
-                let content = content.copy(alloc)?;
-                Ok(Body::Prepare {
-                    exec: *exec,
-                    content,
-                })
-            }
+            Body::Puts { exec, writes } => copy_puts(alloc, *exec, writes),
+            Body::Prepare { exec, content } => copy_prepare(alloc, *exec, content),
             Body::Vote { exec, vote } => Ok(Body::Vote {
                 exec: *exec,
                 vote: *vote,
@@ -283,15 +369,7 @@ impl Body {
                 view,
                 choice,
                 content,
-            } => {
-                let content = copy_content(alloc, content)?;
-                Ok(Body::Finalize {
-                    exec: *exec,
-                    view: *view,
-                    choice: *choice,
-                    content,
-                })
-            }
+            } => copy_finalize(alloc, *exec, *view, *choice, content),
             Body::Accepted { exec, view } => Ok(Body::Accepted {
                 exec: *exec,
                 view: *view,
@@ -300,14 +378,7 @@ impl Body {
                 exec,
                 choice,
                 content,
-            } => {
-                let content = copy_content(alloc, content)?;
-                Ok(Body::Decide {
-                    exec: *exec,
-                    choice: *choice,
-                    content,
-                })
-            }
+            } => copy_decide(alloc, *exec, *choice, content),
             Body::Ask { exec, view } => Ok(Body::Ask {
                 exec: *exec,
                 view: *view,
@@ -319,38 +390,15 @@ impl Body {
                 accepted,
                 decided,
                 content,
-            } => {
-                let content = copy_content(alloc, content)?;
-                Ok(Body::Told {
-                    exec: *exec,
-                    view: *view,
-                    vote: *vote,
-                    accepted: *accepted,
-                    decided: *decided,
-                    content,
-                })
-            }
+            } => copy_told(alloc, *exec, *view, *vote, *accepted, *decided, content),
             Body::Fence { w } => Ok(Body::Fence { w: *w }),
             Body::Fenced {
                 w,
                 base,
                 committed,
                 voted,
-            } => {
-                let base = base.copy(alloc)?;
-                let committed = copy_kept(alloc, committed.as_slice())?;
-                let voted = copy_kept(alloc, voted.as_slice())?;
-                Ok(Body::Fenced {
-                    w: *w,
-                    base,
-                    committed,
-                    voted,
-                })
-            }
-            Body::Drop { w, base } => {
-                let base = base.copy(alloc)?;
-                Ok(Body::Drop { w: *w, base })
-            }
+            } => copy_fenced(alloc, *w, base, committed, voted),
+            Body::Drop { w, base } => copy_drop(alloc, *w, base),
             Body::TooOld { ver, w } => Ok(Body::TooOld { ver: *ver, w: *w }),
         }
     }
@@ -367,45 +415,5 @@ impl Envelope {
             to: self.to,
             body,
         })
-    }
-}
-
-#[cfg(test)]
-mod tests {
-    use super::*;
-    use std::test::Fail;
-
-    #[test]
-    fn a_copy_reads_as_its_original(rt: HostRuntime) -> Result<(), Fail> {
-        let alloc = rt.alloc();
-        let ver = Version { ts: 10, client: 1 };
-        let exec = Exec { ver, eid: 0 };
-        let key = Key { table: 0, index: 1 };
-        let mut writes = List::new(alloc);
-        writes.push(Write { key, value: 5 })?;
-        let content = Content {
-            reads: List::new(alloc),
-            writes,
-            out: List::new(alloc),
-            ending: Ending::Done,
-        };
-        let mut voted = List::new(alloc);
-        voted.push(Kept { exec, content })?;
-        let body = Body::Fenced {
-            w: ver,
-            base: List::new(alloc),
-            committed: List::new(alloc),
-            voted,
-        };
-        let envelope = Envelope {
-            from: NodeId::Replica(1),
-            to: NodeId::Warden(1),
-            body,
-        };
-        let copy = envelope.copy(alloc)?;
-        let copied = format!(in alloc; "{copy:?}")?;
-        let original = format!(in alloc; "{envelope:?}")?;
-        assert_eq!(rt; copied.as_str(), original.as_str());
-        Ok(())
     }
 }
