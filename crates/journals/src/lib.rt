@@ -1,0 +1,22 @@
+//! What a journal of events says, over any machine that replays them: whose turn it is, who is marked, how a run ends,
+//! which pick is fair; and the world of a plan as such a machine.
+#![tactic(auto)]
+
+ghost use Rattle.journals.specs.Laws.{HistoriesReplay, QuietOrDue};
+ghost use Rattle.journals.specs.Samples.{SmallRuns};
+
+/// The world after a history is the replay of its events in order.
+pub fn histories_replay()
+    ensures { HistoriesReplay }
+{}
+
+/// No node is due exactly where the history is quiet.
+pub fn quiet_or_due()
+    ensures { QuietOrDue }
+{}
+
+/// Small runs by the fair rule, computed: one that ends quiet, one whose nodes are out of turns, and one with nothing
+/// to do.
+pub fn small_runs()
+    ensures { SmallRuns }
+{}
