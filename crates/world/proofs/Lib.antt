@@ -1,2 +1,4 @@
-mod Serial
 mod Stages
+mod Journals
+mod Outcome
+mod Played

@@ -26,9 +26,9 @@ program s = record {
   names = s.local ∷ [];
   body = record {
     stmts =
-      stmt.Read 0 0 (expr.Num s.index) ∷
-      stmt.Write 0 (expr.Num s.index) (expr.Bin Add (expr.Local 0) (expr.Num s.add)) ∷
-      stmt.Print (expr.Local 0) ∷ [];
+        stmt.Read 0 0 (expr.Num s.index) ∷
+        stmt.Write 0 (expr.Num s.index) (expr.Bin Add (expr.Local 0) (expr.Num s.add)) ∷
+        stmt.Print (expr.Local 0) ∷ [];
   };
 }
 
