@@ -12,8 +12,8 @@ use Rattle.world.specs.declared.script.FirstScript.{FirstScript}
 use Rattle.world.specs.declared.stage.Slot.TheVariants.{Client}
 use Rattle.world.specs.declared.stage.Stage.TheVariants.{Committed}
 use Rattle.world.specs.Script.{cell, sum_fits}
-use Rattle.world.specs.Stage.{content_of, read_first, waits_for}
-use Rattle.world.specs.Play.{first_play, idle_play, moved_play, turned_by, turned, turned_on, played}
+use Rattle.world.specs.Stage.{content_of, read_first}
+use Rattle.world.specs.Play.{first_play, turned, turned_on, played}
 use Rattle.world.proofs.Journals.{done_journal, overflow_journal, journal_of, events_of}
 
 -- one turn more comes last or first alike

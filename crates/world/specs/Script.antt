@@ -1,5 +1,5 @@
 -- What a script of the first form says: its cell, its program, and what it says to the protocol.
-use Rattle.std.specs.Prelude.{ℕ, max, List, [], ◌∷◌, ℤ, ◌+ℤ◌, Bool}
+use Rattle.std.specs.Prelude.{ℕ, max, List, [], ◌∷◌, ◌+ℤ◌, Bool}
 use Rattle.morty_base.specs.declared.names.Version.{Version}
 use Rattle.morty_base.specs.declared.names.Key.{Key}
 use Rattle.msg.specs.declared.Event.{Event}

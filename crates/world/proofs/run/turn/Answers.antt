@@ -1,4 +1,4 @@
-use Rattle.std.proofs.Common.{◌≡◌, ◌<◌, true, ap, arith}
+use Rattle.std.proofs.Common.{◌≡◌, true, ap, arith}
 use Rattle.world.specs.Stage.{content_of, next_stage, rank, waits_for}
 use Rattle.world.proofs.Stages.{comes_nearer}
 use Rattle.world.proofs.run.turn.Goals as goal
