@@ -1,4 +1,12 @@
-mod Stages
+mod Asking
+mod Following
 mod Journals
+mod Naming
 mod Outcome
+mod Overflowing
 mod Played
+mod Program
+mod Setting
+mod Stages
+mod Table
+mod Writing

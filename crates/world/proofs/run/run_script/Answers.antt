@@ -10,13 +10,12 @@ use Rattle.journals.specs.Fair.{IsFairRun}
 use Rattle.journals.specs.Worlds.{machine_of}
 use Rattle.outcomes.specs.Rows.{rows_of}
 use Rattle.world.specs.declared.script.FirstScript.{FirstScript}
-use Rattle.world.specs.declared.stage.Stage.{Stage}
 use Rattle.world.specs.declared.stage.Stage.TheVariants.{Committed}
 use Rattle.world.specs.declared.run.Play.{Play}
 use Rattle.world.specs.Script.{cell, plan, scripted, turns, world_of}
 use Rattle.world.specs.Play.{IsPlay}
 use Rattle.world.specs.Stage.{content_of, row_of, written_or, rank}
-use Rattle.world.proofs.Journals.{journal_of, events_of}
+use Rattle.world.proofs.Journals.{journal_of}
 use Rattle.world.proofs.Outcome.{fair_run, made_rows, rows_made}
 use Rattle.world.proofs.Played.{last_play, ended}
 use Rattle.world.proofs.run.run_script.Goals as goal
