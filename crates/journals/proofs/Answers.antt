@@ -10,6 +10,8 @@ use Rattle.journals.specs.Machine.{Machine, History, Effect, Menu}
 use Rattle.journals.specs.Marks.{picks, turns_made, mark_after, is_marked, is_refused, is_full, rests, is_quiet, is_out_of_turns, end_of}
 use Rattle.journals.specs.Rounds.{turn_order, due, is_used_up, is_over, IsTurnOf, InTurns}
 use Rattle.journals.specs.Fair.{fair, AllFair}
+use Rattle.protocol.specs.World.{Plan, World, is_live}
+use Rattle.journals.specs.Worlds.{effect_in, is_pending, menu_in, machine_over}
 use Rattle.journals.specs.Laws.{SameAnswers, Agree, AnswersDecide}
 
 -- tests that tell the same of each node are one
@@ -77,3 +79,29 @@ answers_decide m l h nodes a turns ended run = record {
   fair = fair_same m l nodes h a run.fair;
   ends = sym (end_same m l nodes turns h a) ∙ run.ends;
 }
+
+-- at each moment of a history the two lead to one world
+abbrev pub SameWorlds : (History → World) → (History → World) → History → Type 0
+SameWorlds f g [] = f [] ≡ g []
+SameWorlds f g (e ∷ h) = (f (e ∷ h) ≡ g (e ∷ h)) × SameWorlds f g h
+
+module _ (p : Plan) (f g : History → World) where
+  answers_alike : (h : History) → f h ≡ g h → SameAnswers (machine_over p f) (machine_over p g) h
+  answers_alike h same = record {
+    live = λ n. ap (λ (w : World). is_live p w n) same;
+    pending = λ n. ap (λ (w : World). is_pending w n) same;
+    menu = λ n. ap (λ (w : World). menu_in p w n) same;
+  }
+
+  this_moment : (h : History) → SameWorlds f g h → f h ≡ g h
+  this_moment [] same = same
+  this_moment (e ∷ h) same = same.0
+
+  -- so their machines agree
+  pub worlds_agree : (h : History) → SameWorlds f g h → Agree (machine_over p f) (machine_over p g) h
+  worlds_agree [] same = answers_alike [] same
+  worlds_agree (e ∷ h) same = (
+    answers_alike (e ∷ h) same.0,
+    ap (λ (w : World). effect_in p w e) (this_moment h same.1),
+    worlds_agree h same.1,
+  )

@@ -102,12 +102,16 @@ menu_in p w n = record {
   stuck = stuck_for w n;
 }
 
--- the machine whose histories are replayed from the plan
-abbrev pub machine_of : Plan → Machine
-machine_of p = record {
+-- the machine of a plan, where histories lead to these worlds
+abbrev pub machine_over : Plan → (History → World) → Machine
+machine_over p world = record {
   nodes = nodes p;
-  effect = λ h e. effect_in p (world_after p h) e;
-  live = λ h n. is_live p (world_after p h) n;
-  pending = λ h n. is_pending (world_after p h) n;
-  menu = λ h n. menu_in p (world_after p h) n;
+  effect = λ h e. effect_in p (world h) e;
+  live = λ h n. is_live p (world h) n;
+  pending = λ h n. is_pending (world h) n;
+  menu = λ h n. menu_in p (world h) n;
 }
+
+-- where they are replayed
+abbrev pub machine_of : Plan → Machine
+machine_of p = machine_over p (world_after p)
