@@ -22,9 +22,9 @@ module _ (words : List (List ℕ)) (left : Option (List ℕ)) (ReadFailed : Type
       go (Some bytes) e p = subst P e p
 
   pub text_answers : (text : List ℕ) (status : ℕ) (journal : List Event) → words ≡ run_words → IfSome left (λ bytes. text ≡ bytes) → length text ≤ script_limit → IsTextAnswered text old new WriteFailed status journal → IsAnswered words left ReadFailed old new WriteFailed status journal
-  text_answers text status journal run same short (Reported script form written) =
+  text_answers text status journal run same short (Reported script form quiet written) =
       written_answers (report_text script journal) status 0 journal
-      (Report_due run (told (λ bytes. IsReport bytes journal (report_text script journal)) text same (record { script = script; form = record { short = short; form = form }; written = refl })) refl)
+      (Report_due run (told (λ bytes. IsReport bytes journal (report_text script journal)) text same (record { script = script; form = record { short = short; form = form }; run = quiet; written = refl })) refl)
       written
   text_answers text status journal run same short (Refused none written empty) =
       written_answers not_built status 3 journal (Not_built run (told IsNotBuilt text same (record { short = short; none = none })) refl empty refl) written

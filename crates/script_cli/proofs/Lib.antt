@@ -1,2 +1,4 @@
 mod Answered
+mod OneScript
 mod Places
+mod Ran

@@ -42,7 +42,7 @@ first_form b =
 
 -- the script that they make
 abbrev pub script_of : Blanks → FirstScript
-script_of b = record { table = b.table; index = pos b.index; value = pos b.value; add = pos b.add; at = b.at }
+script_of b = record { table = b.table; local = b.local; index = pos b.index; value = pos b.value; add = pos b.add; at = b.at }
 
 -- the latest start of a transaction
 abbrev pub latest_start : ℕ
@@ -60,3 +60,7 @@ pub record IsFirstForm (text : List ℕ) (script : FirstScript) : Type 0 where
   pub blanks : Blanks
   pub filled : IsFilled text tokens blanks
   pub says : script ≡ script_of blanks
+
+-- a text says at most one script
+abbrev pub OneScript : Type 0
+OneScript = (text : List ℕ) (s t : FirstScript) → IsFirstForm text s → IsFirstForm text t → s ≡ t

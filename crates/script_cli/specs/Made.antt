@@ -6,17 +6,22 @@ use Rattle.world.specs.declared.script.FirstScript.{FirstScript}
 use Rattle.script_cli.specs.declared.top.Made.{Made}
 use Rattle.script_cli.specs.declared.top.Made.TheVariants.{NotBuilt, Report}
 use Rattle.script_cli.specs.FirstForm.{IsFirstForm}
-use Rattle.script_cli.specs.TopCall.{report_text, not_built}
+use Rattle.script_cli.specs.TopCall.{report_text, IsQuietRun, not_built}
 
--- the report of this script
+-- the text is the report of the script's run with this journal
+pub record IsRunReport (script : FirstScript) (journal : List Event) (text : List ℕ) : Type 0 where
+  pub run : IsQuietRun script journal
+  pub written : text ≡ report_text script journal
+
+-- the report of a run of this script
 abbrev pub IsReportOf : FirstScript → Made → Type 0
 IsReportOf script NotBuilt = ⊥
-IsReportOf script (Report text journal) = text ≡ report_text script journal
+IsReportOf script (Report text journal) = IsRunReport script journal text
 
--- the report of the script that the text says, or nothing where it says none
+-- the report of a run of the script that the text says, or nothing where it says none
 abbrev pub IsMadeOf : List ℕ → Made → Type 0
 IsMadeOf text NotBuilt = (script : FirstScript) → ¬ IsFirstForm text script
-IsMadeOf text (Report written journal) = (script : FirstScript) × IsFirstForm text script × (written ≡ report_text script journal)
+IsMadeOf text (Report written journal) = (script : FirstScript) × IsFirstForm text script × IsRunReport script journal written
 
 -- the text was written with the status that goes with it, or the sink failed within it and the status is 5
 pub data IsWritten (old new : Option (List ℕ)) (WriteFailed : Type 0) (text : List ℕ) (due status : ℕ) : Type 0 where
@@ -25,6 +30,6 @@ pub data IsWritten (old new : Option (List ℕ)) (WriteFailed : Type 0) (text : 
 
 -- what is answered for a script's text: the report of its run, the line that says that it is none, or nothing
 pub data IsTextAnswered (bytes : List ℕ) (old new : Option (List ℕ)) (WriteFailed : Type 0) (status : ℕ) (journal : List Event) : Type 0 where
-  Reported : (script : FirstScript) → IsFirstForm bytes script → IsWritten old new WriteFailed (report_text script journal) 0 status → IsTextAnswered bytes old new WriteFailed status journal
+  Reported : (script : FirstScript) → IsFirstForm bytes script → IsQuietRun script journal → IsWritten old new WriteFailed (report_text script journal) 0 status → IsTextAnswered bytes old new WriteFailed status journal
   Refused : ((script : FirstScript) → ¬ IsFirstForm bytes script) → IsWritten old new WriteFailed not_built 3 status → journal ≡ [] → IsTextAnswered bytes old new WriteFailed status journal
   No_memory : new ≡ old → status ≡ 9 → journal ≡ [] → IsTextAnswered bytes old new WriteFailed status journal

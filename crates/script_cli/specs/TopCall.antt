@@ -1,11 +1,14 @@
 -- What the top call answers: the lines of its faults, the report of a run, and what is due for words and bytes.
-use Rattle.std.specs.Prelude.{◌≡◌, ◌≢◌, ℕ, ◌<◌, ◌≤◌, ◌⊎◌, List, [], ◌∷◌, ◌++◌, length, codes, Option, IfSome}
+use Rattle.std.specs.Prelude.{◌≡◌, ◌≢◌, ℕ, ◌<◌, ◌≤◌, ◌⊎◌, List, [], ◌∷◌, ◌++◌, length, reverse, codes, Option, IfSome}
 use Rattle.morty_base.specs.declared.names.Ended.TheVariants.{Quiet}
 use Rattle.morty_io.specs.Bytes.{Takes, TakesPart}
 use Rattle.report.specs.Text.{line_feed, report_of}
-use Rattle.world.specs.declared.script.FirstScript.{FirstScript}
 use Rattle.msg.specs.declared.Event.{Event}
-use Rattle.world.specs.Rows.{rows_of}
+use Rattle.journals.specs.Fair.{IsFairRun}
+use Rattle.journals.specs.Worlds.{machine_of}
+use Rattle.outcomes.specs.Rows.{rows_of}
+use Rattle.world.specs.declared.script.FirstScript.{FirstScript}
+use Rattle.world.specs.Script.{scripted, plan, turns, world_of}
 use Rattle.script_cli.specs.FirstForm.{IsFirstForm}
 
 -- the one command: run
@@ -42,14 +45,23 @@ pub record IsScript (bytes : List ℕ) (script : FirstScript) : Type 0 where
   pub short : length bytes ≤ script_limit
   pub form : IsFirstForm bytes script
 
--- the report of a quiet run of the script with this journal, whose rows are those of the serial run of its program
-abbrev pub report_text : FirstScript → List Event → List ℕ
-report_text script journal = report_of (script.table ∷ []) (rows_of script journal) Quiet
+-- it is so of each script that the bytes say, where they are told
+abbrev pub OfScript : Option (List ℕ) → (FirstScript → Type 0) → Type 0
+OfScript left P = IfSome left (λ bytes. (script : FirstScript) → IsScript bytes script → P script)
 
--- the text is the report of the bytes' script for this journal
+-- the report of the world that the journal's events make of the script, where its run ended quiet
+abbrev pub report_text : FirstScript → List Event → List ℕ
+report_text script journal = report_of (script.table ∷ []) (rows_of (scripted script) (world_of script journal)) Quiet
+
+-- the journal is that of a run of the script in rounds, by the fair rule, which ended quiet
+abbrev pub IsQuietRun : FirstScript → List Event → Type 0
+IsQuietRun script journal = IsFairRun (machine_of (plan script)) turns (reverse journal) Quiet
+
+-- the text is the report of the run with this journal of the bytes' script
 pub record IsReport (bytes : List ℕ) (journal : List Event) (text : List ℕ) : Type 0 where
   pub script : FirstScript
   pub form : IsScript bytes script
+  pub run : IsQuietRun script journal
   pub written : text ≡ report_text script journal
 
 -- what is to be written for the words and for the bytes that the source had left, with the status that goes with

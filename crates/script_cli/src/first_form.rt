@@ -3,7 +3,7 @@ ghost use Rattle.txn_text.specs.Bytes.{number_value_of};
 ghost use Rattle.txn_text.specs.Tokens.{token_bytes};
 ghost use Rattle.world.specs.declared.script.FirstScript.{FirstScript as FirstScriptValue};
 ghost use Rattle.script_cli.specs.Lexemes.{Name, Word, Number, lexeme, lexemes};
-ghost use Rattle.script_cli.specs.FirstForm.{Blanks as BlanksValue, first_form, script_of, IsFilled, IsFirstForm};
+ghost use Rattle.script_cli.specs.FirstForm.{Blanks as BlanksValue, first_form, script_of, IsFilled, IsFirstForm, OneScript};
 ghost use Rattle.script_cli.specs.Parts.{fill, blanks_of};
 
 use morty_base::{List, NoMemory};
@@ -152,6 +152,11 @@ fn find_blanks(text: &[u8], toks: &[Token]) -> Option<Blanks>
     })
 }
 
+/// A text says at most one script.
+pub fn one_script()
+    ensures { OneScript }
+{}
+
 /// The script that a text of the first form says, if the text is one.
 pub fn read_first_form(alloc: Global, text: &[u8]) -> Result<Option<FirstScript>, NoMemory>
     requires { length text.now < 4294967295 }
@@ -199,6 +204,7 @@ fn script(alloc: Global, text: &[u8], blanks: &Blanks) -> Result<FirstScript, No
 {
     Ok(FirstScript {
         table: List::from_slice(alloc, token_text(text, blanks.table))?,
+        local: List::from_slice(alloc, token_text(text, blanks.local))?,
         index: integer(text, blanks.index),
         value: integer(text, blanks.value),
         add: integer(text, blanks.add),

@@ -4,4 +4,5 @@
 mod first_form;
 mod top;
 
+pub use first_form::one_script;
 pub use top::{Exit, run_here};

@@ -1,5 +1,12 @@
-ghost use Rattle.std.specs.Prelude.{◌≡◌, ◌≢◌, ◌↔◌, ◌≤◌, ◌⊎◌, [], length, codes, IsTrue, IfSome, IfOk};
-ghost use Rattle.script_cli.specs.TopCall.{run_words, bad_command_line, read_failed as read_failed_line, IsAnswered, IsReported, IsRefused, IsScript, IsCut, IsStatus};
+ghost use Rattle.std.specs.Prelude.{◌≡◌, ◌≢◌, ◌↔◌, ◌≤◌, ◌⊎◌, [], length, codes, reverse, Some, IsTrue, IfSome, IfOk};
+ghost use Rattle.morty_base.specs.declared.names.Ended.TheVariants.{Quiet};
+ghost use Rattle.journals.specs.Marks.{end_of};
+ghost use Rattle.journals.specs.Rounds.{InRounds};
+ghost use Rattle.journals.specs.Fair.{AllFair};
+ghost use Rattle.journals.specs.Worlds.{machine_of};
+ghost use Rattle.outcomes.specs.Outcome.{IsSafeThroughout, IsSerialOutcome};
+ghost use Rattle.world.specs.Script.{scripted, plan, turns, world_of};
+ghost use Rattle.script_cli.specs.TopCall.{run_words, bad_command_line, read_failed as read_failed_line, IsAnswered, IsReported, IsRefused, IsScript, OfScript, IsCut, IsStatus};
 ghost use Rattle.morty_io.specs.Faults.{Rose};
 ghost use Rattle.morty_io.specs.Bytes.{Takes};
 ghost use Rattle.world.specs.declared.script.FirstScript.{FirstScript as FirstScriptValue};
@@ -138,10 +145,19 @@ pub fn run_here<S: Source, K: Sink>(
     src: &mut S,
     out: &mut K,
 ) -> Exit
-    // 0: the source was read to its end, and the report of its script's run was written, whose reads, printed lines,
-    // ending and values are those of the serial run of its program.
+    // 0: the source was read to its end, and the report was written of the world that the journal's events make. The
+    // journal is that of a run of the source's script: the nodes took turns in rounds, each pick is the fair one, and
+    // the run ended quiet.
     ensures reported { result.status ≡ 0 → IfSome (S.left src.old) (IsReported (K.taken out.old) (K.taken out.new) result.journal.items) }
     ensures emptied { result.status ≡ 0 → IfSome (S.left src.old) (λ _. S.left src.new ≡ Some []) }
+    ensures ended { result.status ≡ 0 → OfScript (S.left src.old) (λ script. end_of (machine_of (plan script)) turns (reverse result.journal.items) ≡ Some Quiet) }
+    ensures in_rounds { result.status ≡ 0 → OfScript (S.left src.old) (λ script. InRounds (machine_of (plan script)) turns (reverse result.journal.items)) }
+    ensures fair_picks { result.status ≡ 0 → OfScript (S.left src.old) (λ script. AllFair (machine_of (plan script)) (reverse result.journal.items)) }
+
+    // Whatever the status: at each moment of the journal no execution is decided two ways by two nodes and at most one
+    // execution of a transaction is committed, and what it leaves committed is the serial run of its programs.
+    ensures safe { OfScript (S.left src.old) (λ script. IsSafeThroughout (plan script) result.journal.items) }
+    ensures serial { OfScript (S.left src.old) (λ script. IsSerialOutcome (scripted script) (world_of script result.journal.items)) }
 
     // 2: exactly where the words are not the one word `run`, unless the sink fails.
     ensures bad_words { result.status ≡ 2 → (words.now ≢ run_words) × Takes (K.taken out.old) (K.taken out.new) bad_command_line }

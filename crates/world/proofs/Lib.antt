@@ -1,2 +1,12 @@
-mod Serial
+mod Asking
+mod Following
+mod Journals
+mod Naming
+mod Outcome
+mod Overflowing
+mod Played
+mod Program
+mod Setting
 mod Stages
+mod Table
+mod Writing

@@ -1,4 +1,3 @@
 pub mod Script
-pub mod Rows
 pub mod Stage
 pub mod Play

@@ -1,12 +1,15 @@
--- What a script of the first form says: its cell, its program, and the serial run of that program.
-use Rattle.std.specs.Prelude.{max, List, [], ◌∷◌}
+-- What a script of the first form says: its cell, its program, and what it says to the protocol.
+use Rattle.std.specs.Prelude.{ℕ, max, List, [], ◌∷◌, ◌+ℤ◌, Bool}
 use Rattle.morty_base.specs.declared.names.Version.{Version}
 use Rattle.morty_base.specs.declared.names.Key.{Key}
+use Rattle.msg.specs.declared.Event.{Event}
 use Rattle.txn_lang.specs.declared.tree.BinOp.TheVariants.{Add}
-use Rattle.txn_lang.specs.Tree.{Num, Local, Bin, Commands, End, Then, Read, Write, Print}
-use Rattle.txn_lang.specs.Keys.{Entry, after_writes}
-use Rattle.txn_lang.specs.Actions.{program_actions}
-use Rattle.txn_lang.specs.Runs.{Run, run, map_answer, kept}
+use Rattle.txn_lang.specs.declared.tree.Expr.TheVariants as expr
+use Rattle.txn_lang.specs.declared.tree.Stmt.TheVariants as stmt
+use Rattle.txn_lang.specs.Value.{fits_word}
+use Rattle.txn_lang.specs.Program.{Program}
+use Rattle.protocol.specs.World.{Plan, World, first_world, replay_from}
+use Rattle.programs.specs.Scripted.{Scripted, plan_of}
 use Rattle.world.specs.declared.script.FirstScript.{FirstScript}
 
 -- the script's one cell
@@ -18,20 +21,41 @@ abbrev pub version_of : FirstScript → Version
 version_of s = record { ts = max s.at 1; client = 1 }
 
 -- its program: read the cell, write the value read with a number added, print the value read
-abbrev pub program : FirstScript → Commands
-program s =
-    Then (Read 0 0 (Num s.index))
-    (Then (Write 0 (Num s.index) (Bin Add (Local 0) (Num s.add)))
-    (Then (Print (Local 0))
-    End))
+abbrev pub program : FirstScript → Program
+program s = record {
+  names = s.local ∷ [];
+  body = record {
+    stmts =
+        stmt.Read 0 0 (expr.Num s.index) ∷
+        stmt.Write 0 (expr.Num s.index) (expr.Bin Add (expr.Local 0) (expr.Num s.add)) ∷
+        stmt.Print (expr.Local 0) ∷ [];
+  };
+}
 
-abbrev pub first_values : FirstScript → List Entry
-first_values s = record { key = cell s; value = s.value } ∷ []
+-- one replica, one client that runs the program, and one first value; the other numbers are those of a script that says
+-- nothing of them
+abbrev pub scripted : FirstScript → Scripted
+scripted s = record {
+  replicas = 1;
+  wardens = 0;
+  clients = (record { program = program s; at = s.at } ∷ []) ∷ [];
+  firsts = record { key = cell s; value = s.value } ∷ [];
+  tries = 3;
+  execs = 16;
+  gap = 1;
+}
 
--- the serial run of its program, which has one local, on its first values
-abbrev pub serial_run : FirstScript → Run
-serial_run s = run map_answer (program_actions (program s) 1) [] (first_values s)
+abbrev pub plan : FirstScript → Plan
+plan s = plan_of (scripted s)
 
--- the values that this run leaves
-abbrev pub last_values : FirstScript → List Entry
-last_values s = after_writes (kept (serial_run s)) (first_values s)
+-- how many turns each node may make
+abbrev pub turns : ℕ
+turns = 5000
+
+-- the world that the events of a journal make
+abbrev pub world_of : FirstScript → List Event → World
+world_of s journal = replay_from (plan s) first_world journal
+
+-- the sum that the program writes has a 64-bit value
+abbrev pub sum_fits : FirstScript → Bool
+sum_fits s = fits_word (s.value +ℤ s.add)

@@ -1,30 +1,34 @@
--- The stages of the run: whose turn ends each, what content is under way, and how far it is from the end.
-use Rattle.std.specs.Prelude.{◌≡◌, ℕ, ◌+◌, ⊤, Bool, true, false, if◌then◌else◌, List, [], ◌∷◌, ℤ, ◌+ℤ◌}
+-- The stages of the run: whose turn ends each, by which event, what comes after it, and how far it is from the end.
+use Rattle.std.specs.Prelude.{ℕ, ◌+◌, Bool, true, false, if◌then◌else◌, List, [], ◌∷◌, ℤ, ◌+ℤ◌}
+use Rattle.morty_base.specs.Names.{first_wid}
 use Rattle.morty_base.specs.declared.names.Ending.TheVariants.{Done, Overflow}
 use Rattle.morty_base.specs.declared.names.Ending.{Ending}
 use Rattle.msg.specs.declared.Content.{Content}
 use Rattle.msg.specs.declared.Event.{Event}
 use Rattle.msg.specs.declared.Event.TheVariants.{Picked, Ran}
 use Rattle.msg.specs.declared.Pick.TheVariants.{Idle, Deliver, Go}
-use Rattle.txn_lang.specs.Value.{fits_word}
-use Rattle.world.specs.declared.script.FirstScript.{FirstScript}
+use Rattle.msg.specs.declared.Read.{Read}
+use Rattle.msg.specs.declared.Write.{Write}
 use Rattle.morty_base.specs.declared.names.NodeId.{NodeId}
 use Rattle.morty_base.specs.declared.names.NodeId.TheVariants as nodes
+use Rattle.report.specs.declared.rows.CommitRow.{CommitRow}
+use Rattle.world.specs.declared.script.FirstScript.{FirstScript}
 use Rattle.world.specs.declared.stage.Slot.{Slot}
 use Rattle.world.specs.declared.stage.Slot.TheVariants.{Client, Replica}
 use Rattle.world.specs.declared.stage.Stage.{Stage}
 use Rattle.world.specs.declared.stage.Stage.TheVariants.{Unbegun, Begun, Asking, Answering, Answered, Putting, Preparing, Voted, Decided, Committed}
-use Rattle.msg.specs.declared.Write.{Write}
-use Rattle.report.specs.declared.rows.CommitRow.{CommitRow}
-use Rattle.world.specs.Script.{cell, version_of}
-use Rattle.world.specs.Rows.{read_first}
+use Rattle.world.specs.Script.{cell, sum_fits, version_of}
+
+-- the read of the script's first value
+abbrev pub read_first : FirstScript → Read
+read_first s = record { key = cell s; wid = first_wid; value = s.value }
 
 -- what the client prepares: the sum is written, unless it has no 64-bit value
 unfoldable pub content_of : FirstScript → Content
 content_of s =
-    if fits_word (s.value +ℤ s.add)
-    then record { reads = read_first (record { key = cell s; value = s.value }) ∷ []; writes = record { key = cell s; value = s.value +ℤ s.add } ∷ []; out = s.value ∷ []; ending = Done }
-    else record { reads = read_first (record { key = cell s; value = s.value }) ∷ []; writes = []; out = []; ending = Overflow }
+    if sum_fits s
+    then record { reads = read_first s ∷ []; writes = record { key = cell s; value = s.value +ℤ s.add } ∷ []; out = s.value ∷ []; ending = Done }
+    else record { reads = read_first s ∷ []; writes = []; out = []; ending = Overflow }
 
 -- the value of the first write, or another one where there is none
 abbrev pub written_or : ℤ → List Write → ℤ
@@ -35,14 +39,26 @@ written_or value (w ∷ ws) = w.value
 abbrev pub row_of : FirstScript → Content → CommitRow
 row_of s c = record { exec = record { ver = version_of s; eid = 0 }; txn = 1; attempt = 1; ending = c.ending; reads = c.reads; out = c.out }
 
--- a content that is under way is what the client prepares
-abbrev pub IsReached : FirstScript → Stage → Type 0
-IsReached s (Putting c) = c ≡ content_of s
-IsReached s (Preparing c) = c ≡ content_of s
-IsReached s (Voted c) = c ≡ content_of s
-IsReached s (Decided c) = c ≡ content_of s
-IsReached s (Committed c) = c ≡ content_of s
-IsReached s _ = ⊤
+abbrev pub is_done : Ending → Bool
+is_done Done = true
+is_done _ = false
+
+-- the stage after the program came to a content: one with writes puts them before it is prepared
+abbrev pub stage_of : Content → Stage
+stage_of c = if is_done c.ending then Putting c else Preparing c
+
+-- the stage after the event that ends this one, where the program comes to the content c
+abbrev pub next_stage : Content → Stage → Stage
+next_stage c Unbegun = Begun
+next_stage c Begun = Asking
+next_stage c Asking = Answering
+next_stage c Answering = Answered
+next_stage c Answered = stage_of c
+next_stage c (Putting d) = Preparing d
+next_stage c (Preparing d) = Voted d
+next_stage c (Voted d) = Decided d
+next_stage c (Decided d) = Committed d
+next_stage c (Committed d) = Committed d
 
 -- how many steps are left at most
 abbrev pub rank : Stage → ℕ
@@ -56,10 +72,6 @@ rank (Preparing c) = 3
 rank (Voted c) = 2
 rank (Decided c) = 1
 rank (Committed c) = 0
-
-abbrev pub is_done : Ending → Bool
-is_done Done = true
-is_done _ = false
 
 -- the number of the envelope that asks for a vote on the content: a question, its answer and, where there are writes,
 -- these stand before it

@@ -1,8 +1,11 @@
-ghost use Rattle.std.specs.Prelude.{◌≡◌, ◌<◌, IfOk};
-ghost use Rattle.world.specs.Script.{cell as cell_of, version_of};
-ghost use Rattle.world.specs.Rows.{rows_of};
-ghost use Rattle.world.specs.Stage.{row_of, written_or, rank};
-ghost use Rattle.world.specs.Play.{IsPlay, turns_left};
+ghost use Rattle.std.specs.Prelude.{◌≡◌, ◌+◌, ◌<◌, ◌≤◌, IfOk, reverse};
+ghost use Rattle.morty_base.specs.declared.names.Ended.TheVariants.{Quiet};
+ghost use Rattle.journals.specs.Fair.{IsFairRun};
+ghost use Rattle.journals.specs.Worlds.{machine_of};
+ghost use Rattle.outcomes.specs.Rows.{rows_of};
+ghost use Rattle.world.specs.Script.{cell as cell_of, version_of, scripted, plan, turns, world_of};
+ghost use Rattle.world.specs.Stage.{content_of, row_of, written_or, rank};
+ghost use Rattle.world.specs.Play.{IsPlay, turned, turns_left};
 
 use crate::list::one;
 use crate::script::{FirstScript, cell};
@@ -41,9 +44,10 @@ fn version(script: &FirstScript) -> Version
 
 /// One turn of the node whose turn it is: it moves where something waits for it, else it picks nothing.
 fn turn(alloc: Global, script: &FirstScript, play: Play) -> Result<Play, NoMemory>
-    requires kept { IsPlay script.now play }
+    requires few { play.events + rank play.stage ≤ 9 }
     requires going { play.idle < 2 }
-    ensures kept { IfOk result (IsPlay script.now) }
+    ensures turned { IfOk result (λ next. next ≡ turned (content_of script.now) play) }
+    ensures few { IfOk result (λ next. next.events + rank next.stage ≤ 9) }
     ensures nearer { IfOk result (λ next. turns_left next < turns_left play) }
 {
     let Play {
@@ -53,13 +57,14 @@ fn turn(alloc: Global, script: &FirstScript, play: Play) -> Result<Play, NoMemor
         slot,
         idle,
     } = play;
+    let next = slot.other();
     if waits_for(&stage, slot) {
         journal.push(event(&stage))?;
         Ok(Play {
             journal,
             events: events + 1,
             stage: advance(alloc, script, stage)?,
-            slot: slot.other(),
+            slot: next,
             idle: 0,
         })
     } else {
@@ -68,7 +73,7 @@ fn turn(alloc: Global, script: &FirstScript, play: Play) -> Result<Play, NoMemor
             journal,
             events,
             stage,
-            slot: slot.other(),
+            slot: next,
             idle: idle + 1,
         })
     }
@@ -77,7 +82,7 @@ fn turn(alloc: Global, script: &FirstScript, play: Play) -> Result<Play, NoMemor
 /// Lets the nodes take turns until both have nothing to do: the client first, then the replica, and so on.
 fn play_to_end(alloc: Global, script: &FirstScript) -> Result<Play, NoMemory>
     ensures kept { IfOk result (IsPlay script.now) }
-    ensures quiet { IfOk result (λ play. rank play.stage ≡ 0) }
+    ensures idle { IfOk result (λ play. 2 ≤ play.idle) }
 {
     let mut play = Play {
         journal: List::new(alloc),
@@ -141,9 +146,11 @@ fn committed_row(script: &FirstScript, content: Content) -> CommitRow
 }
 
 /// Runs the script to its end, and gives what committed.
-#[tactic(auto, unfolding(crate::specs::Rows::rows_of))]
 pub fn run_script(alloc: Global, script: &FirstScript) -> Result<Run, NoMemory>
-    ensures { IfOk result (λ run. run.rows ≡ rows_of script.now run.journal) }
+    // The rows are those of the world that the journal's events make.
+    ensures rows { IfOk result (λ run. run.rows ≡ rows_of (scripted script.now) (world_of script.now run.journal)) }
+    // The nodes took turns in rounds, each pick is the fair one, and nobody was left with anything to do.
+    ensures fair { IfOk result (λ run. IsFairRun (machine_of (plan script.now)) turns (reverse run.journal) Quiet) }
 {
     let Play {
         journal,

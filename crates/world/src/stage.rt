@@ -1,8 +1,5 @@
-ghost use Rattle.std.specs.Prelude.{◌≡◌, ◌<◌, IfOk};
-ghost use Rattle.world.specs.Script.{cell as cell_of};
-ghost use Rattle.world.specs.Rows.{read_first};
-ghost use Rattle.world.specs.declared.script.FirstScript.{FirstScript as FirstScriptValue};
-ghost use Rattle.world.specs.Stage.{content_of, IsReached, waits_for as waits_for_of, node_of, other_of, prepare_at, event_of, rank};
+ghost use Rattle.std.specs.Prelude.{◌≡◌, IfOk};
+ghost use Rattle.world.specs.Stage.{read_first, content_of, waits_for as waits_for_of, node_of, other_of, prepare_at, event_of, stage_of, next_stage};
 
 use crate::list::one;
 use crate::script::{FirstScript, cell};
@@ -115,7 +112,7 @@ pub fn event(stage: &Stage) -> Event
 
 /// The read of the script's first value.
 fn first_read(script: &FirstScript) -> Read
-    ensures { result ≡ read_first (record { key = cell_of script.now; value = script.now.value }) }
+    ensures { result ≡ read_first script.now }
 {
     Read {
         key: cell(script),
@@ -157,10 +154,9 @@ fn content(alloc: Global, script: &FirstScript) -> Result<Content, NoMemory>
     }
 }
 
-/// The stage of a content that the client has prepared.
+/// The stage after the program came to the content.
 fn after_program(content: Content) -> Stage
-    ensures reached { (s : FirstScriptValue) → content ≡ content_of s → IsReached s result }
-    ensures nearer { rank result < 5 }
+    ensures { result ≡ stage_of content }
 {
     match content.ending {
         Ending::Done => Stage::Putting(content),
@@ -170,9 +166,7 @@ fn after_program(content: Content) -> Stage
 
 /// The stage after the event of this one.
 pub fn advance(alloc: Global, script: &FirstScript, stage: Stage) -> Result<Stage, NoMemory>
-    requires { IsReached script.now stage }
-    ensures reached { IfOk result (IsReached script.now) }
-    ensures nearer { 0 < rank stage → IfOk result (λ next. rank next < rank stage) }
+    ensures { IfOk result (λ next. next ≡ next_stage (content_of script.now) stage) }
 {
     match stage {
         Stage::Unbegun => Ok(Stage::Begun),

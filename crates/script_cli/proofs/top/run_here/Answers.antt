@@ -1,5 +1,48 @@
+use Rattle.std.proofs.Common.{◌≡◌, Some, lit<}
+use Rattle.std.specs.Prelude.{reverse}
+use Rattle.morty_base.specs.declared.names.Ended.TheVariants.{Quiet}
+use Rattle.journals.specs.Fair.{AllFair}
+use Rattle.journals.specs.Marks.{end_of}
+use Rattle.journals.specs.Rounds.{InRounds}
+use Rattle.journals.specs.Worlds.{machine_of}
+use Rattle.outcomes.specs.Outcome.{IsSafeThroughout, IsSerialOutcome}
+use Rattle.outcomes.proofs.Outcomes.{outcomes_are_safe, outcomes_are_serial}
+use Rattle.world.specs.Script.{scripted, plan, turns, world_of}
+use Rattle.script_cli.specs.TopCall.{IsQuietRun}
 use Rattle.script_cli.proofs.Answered.{completes_told}
+use Rattle.script_cli.proofs.Ran.{of_all, of_script, quiet_run}
 use Rattle.script_cli.proofs.top.run_here.Goals as goal
+
+pub returns-clause-ended : goal.returns-clause-ended
+returns-clause-ended g c zero =
+    let left = g.S.Source.left c.args.src.now in
+    let journal = c.answer.result.journal.items in
+    of_script left (λ script. IsQuietRun script journal) (λ script. end_of (machine_of (plan script)) turns (reverse journal) ≡ Some Quiet)
+    (quiet_run c.args.words.now left _ _ _ _ _ journal c.answer.ensures.answered zero) (λ script run. run.ends)
+
+pub returns-clause-in_rounds : goal.returns-clause-in_rounds
+returns-clause-in_rounds g c zero =
+    let left = g.S.Source.left c.args.src.now in
+    let journal = c.answer.result.journal.items in
+    of_script left (λ script. IsQuietRun script journal) (λ script. InRounds (machine_of (plan script)) turns (reverse journal))
+    (quiet_run c.args.words.now left _ _ _ _ _ journal c.answer.ensures.answered zero) (λ script run. run.rounds)
+
+pub returns-clause-fair_picks : goal.returns-clause-fair_picks
+returns-clause-fair_picks g c zero =
+    let left = g.S.Source.left c.args.src.now in
+    let journal = c.answer.result.journal.items in
+    of_script left (λ script. IsQuietRun script journal) (λ script. AllFair (machine_of (plan script)) (reverse journal))
+    (quiet_run c.args.words.now left _ _ _ _ _ journal c.answer.ensures.answered zero) (λ script run. run.fair)
+
+pub returns-clause-safe : goal.returns-clause-safe
+returns-clause-safe g c =
+    let journal = c.answer.result.journal.items in
+    of_all (g.S.Source.left c.args.src.now) (λ script. IsSafeThroughout (plan script) journal) (λ script. outcomes_are_safe (plan script) (lit< tt) journal)
+
+pub returns-clause-serial : goal.returns-clause-serial
+returns-clause-serial g c =
+    let journal = c.answer.result.journal.items in
+    of_all (g.S.Source.left c.args.src.now) (λ script. IsSerialOutcome (scripted script) (world_of script journal)) (λ script. outcomes_are_serial (scripted script) (lit< tt) journal)
 
 pub returns-clause-complete : goal.returns-clause-complete
 returns-clause-complete g c = completes_told c.args.words.now (g.S.Source.left c.args.src.now) _ _ _ _ _ _ c.answer.ensures.answered
