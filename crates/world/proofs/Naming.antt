@@ -5,7 +5,6 @@ use Rattle.std.proofs.lemmas.Cmp.{int_eq_equiv}
 use Rattle.morty_base.specs.Names.{no_version, before, same_version, same_exec, same_key}
 use Rattle.morty_base.specs.Orders.{TellsEqual}
 use Rattle.morty_base.proofs.Orders.{before_total, same_version_tells, same_exec_tells, same_key_tells}
-use Rattle.protocol.proofs.Orders.{none_before}
 use Rattle.world.proofs.Setting.{Setting, version_in, exec_in}
 use Rattle.world.proofs.Asking.{Names}
 
@@ -19,7 +18,6 @@ begins_later s = grind (arith, nat_tests)
 pub names : (s : Setting) → Names s
 names s = record {
   later = begins_later s;
-  not_later = none_before (version_in s);
   not_before_itself = before_total.irreflexive (version_in s);
   same_version_itself = itself same_version same_version_tells (version_in s);
   same_exec_itself = itself same_exec same_exec_tells (exec_in s);

@@ -97,7 +97,7 @@ done_end s = let n = names (setting s) in simp (n.same_exec_itself, n.same_versi
 
 overflow_end : (s : FirstScript) → rows_of (scripted s) (over.world8 (setting s)) ≡ rows_with s (s.at + 0) (over.content_in (setting s)) s.value 8
 unfolding rows_of committed_executions is_committed
-overflow_end s = let n = names (setting s) in simp (n.same_exec_itself, n.same_version_itself, n.same_key_itself, key_before_total.irreflexive (cell s))
+overflow_end s = let n = names (setting s) in simp (n.same_exec_itself, n.same_version_itself, n.same_key_itself)
 
 -- the start is late by no gap
 no_gap : (s : FirstScript) (k : Content) (value : ℤ) (events : ℕ) → rows_with s (s.at + 0) k value events ≡ rows_with s s.at k value events

@@ -45,18 +45,22 @@ world7 s = world_with (clients_last s (content_in s)) (replicas6 s) (question s 
 abbrev pub world8 : Setting → World
 world8 s = world_with (clients_last s (content_in s)) (replicas8 s) (question s ∷ reply s ∷ prepare s (content_in s) ∷ vote s ∷ decision s (content_in s) ∷ []) (0 ∷ 1 ∷ 2 ∷ 3 ∷ 4 ∷ []) 8
 
+-- the program overflows, and its execution is prepared alone
 pub step5 : (s : Setting) → Asks s → Overflows s → after (plan_in s) (world4 s) (Ran 1) ≡ world5 s
 unfolding after enabled pick_moves client_moves client_step on_ran ran prepare_if_ready wrote content
 step5 s h d = simp (h.asks, d.does)
 
+-- the replica votes Commit
 pub step6 : (s : Setting) → Names s → after (plan_in s) (world5 s) (Picked (Replica 1) (Deliver 2)) ≡ world6 s
 unfolding after enabled pick_moves replica_moves after_taking says takes answer latest held due note_for same_node same_wid may_vote verdict
-step6 s n = simp (n.later, floor, n.same_key_itself, first_itself, n.not_before_itself, n.same_version_itself, n.same_value_itself)
+step6 s n = simp (n.later, floor, n.same_key_itself, first_itself, n.same_value_itself)
 
+-- the client decides
 pub step7 : (s : Setting) → Names s → after (plan_in s) (world6 s) (Picked (Client 1) (Deliver 3)) ≡ world7 s
 unfolding after enabled pick_moves client_moves client_step comes comes_prepared counts_vote on_tally tally_says decide conclude same_node
 step7 s n = simp n.same_exec_itself
 
+-- the replica takes the decision
 pub step8 : (s : Setting) → Names s → after (plan_in s) (world7 s) (Picked (Replica 1) (Deliver 4)) ≡ world8 s
 unfolding after enabled pick_moves replica_moves after_taking says takes answer latest held due note_for same_node same_wid
-step8 s n = simp (n.later, floor, n.same_key_itself, first_itself, n.not_before_itself, n.same_version_itself, n.same_value_itself, n.same_exec_itself)
+step8 s n = simp (n.later, floor, n.same_key_itself, first_itself, n.same_value_itself)

@@ -56,22 +56,27 @@ world8 s y = world_with (clients_last s (content_in s y)) (replicas7 s y) (quest
 abbrev pub world9 : Setting → ℤ → World
 world9 s y = world_with (clients_last s (content_in s y)) (replicas9 s y) (question s ∷ reply s ∷ puts s (content_in s y) ∷ prepare s (content_in s y) ∷ vote s ∷ decision s (content_in s y) ∷ []) (0 ∷ 1 ∷ 2 ∷ 3 ∷ 4 ∷ 5 ∷ []) 9
 
+-- the program writes and prints, and its execution is put and prepared
 pub step5 : (s : Setting) (y : ℤ) → Asks s → Writes s y → after (plan_in s) (world4 s) (Ran 1) ≡ world5 s y
 unfolding after enabled pick_moves client_moves client_step on_ran ran prepare_if_ready wrote content
 step5 s y h d = simp (h.asks, d.does)
 
+-- the replica takes the writes: the reader below them is due no Note
 pub step6 : (s : Setting) (y : ℤ) → Names s → after (plan_in s) (world5 s y) (Picked (Replica 1) (Deliver 2)) ≡ world6 s y
 unfolding after enabled pick_moves replica_moves after_taking says takes answer latest held due note_for same_node same_wid
 step6 s y n = simp (n.later, floor, n.same_key_itself, first_itself, n.not_before_itself, n.same_version_itself, n.same_value_itself)
 
+-- it votes Commit
 pub step7 : (s : Setting) (y : ℤ) → Names s → after (plan_in s) (world6 s y) (Picked (Replica 1) (Deliver 3)) ≡ world7 s y
 unfolding after enabled pick_moves replica_moves after_taking says takes answer latest held due note_for same_node same_wid may_vote verdict
 step7 s y n = simp (n.later, floor, n.same_key_itself, first_itself, n.not_before_itself, n.same_version_itself, n.same_value_itself)
 
+-- the client decides
 pub step8 : (s : Setting) (y : ℤ) → Names s → after (plan_in s) (world7 s y) (Picked (Client 1) (Deliver 4)) ≡ world8 s y
 unfolding after enabled pick_moves client_moves client_step comes comes_prepared counts_vote on_tally tally_says decide conclude same_node
 step8 s y n = simp n.same_exec_itself
 
+-- the replica takes the decision
 pub step9 : (s : Setting) (y : ℤ) → Names s → after (plan_in s) (world8 s y) (Picked (Replica 1) (Deliver 5)) ≡ world9 s y
 unfolding after enabled pick_moves replica_moves after_taking says takes answer latest held due note_for same_node same_wid
-step9 s y n = simp (n.later, floor, n.same_key_itself, first_itself, n.not_before_itself, n.same_version_itself, n.same_value_itself, n.same_exec_itself)
+step9 s y n = simp (n.later, floor, n.same_key_itself, first_itself, n.not_before_itself, n.same_version_itself, n.same_value_itself)
