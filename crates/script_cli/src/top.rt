@@ -150,9 +150,12 @@ pub fn run_here<S: Source, K: Sink>(
     // the run ended quiet.
     ensures reported { result.status ≡ 0 → IfSome (S.left src.old) (IsReported (K.taken out.old) (K.taken out.new) result.journal.items) }
     ensures emptied { result.status ≡ 0 → IfSome (S.left src.old) (λ _. S.left src.new ≡ Some []) }
-    ensures ended { result.status ≡ 0 → OfScript (S.left src.old) (λ script. end_of (machine_of (plan script)) turns (reverse result.journal.items) ≡ Some Quiet) }
-    ensures in_rounds { result.status ≡ 0 → OfScript (S.left src.old) (λ script. InRounds (machine_of (plan script)) turns (reverse result.journal.items)) }
-    ensures fair_picks { result.status ≡ 0 → OfScript (S.left src.old) (λ script. AllFair (machine_of (plan script)) (reverse result.journal.items)) }
+    ensures ended { result.status ≡ 0 →
+        OfScript (S.left src.old) (λ script. end_of (machine_of (plan script)) turns (reverse result.journal.items) ≡ Some Quiet) }
+    ensures in_rounds { result.status ≡ 0 →
+        OfScript (S.left src.old) (λ script. InRounds (machine_of (plan script)) turns (reverse result.journal.items)) }
+    ensures fair_picks { result.status ≡ 0 →
+        OfScript (S.left src.old) (λ script. AllFair (machine_of (plan script)) (reverse result.journal.items)) }
 
     // Whatever the status: at each moment of the journal no execution is decided two ways by two nodes and at most one
     // execution of a transaction is committed, and what it leaves committed is the serial run of its programs.

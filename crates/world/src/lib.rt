@@ -1,5 +1,5 @@
-//! A run of one client, one replica and one transaction that adds to a cell. It is small on purpose: the whole
-//! protocol takes its place.
+//! A run of one client, one replica and one transaction that adds to a cell. Its journal and its rows are those of the
+//! protocol's definitions. It is small on purpose: the handlers of the protocol take its place.
 #![tactic(auto)]
 
 mod list;
