@@ -1,4 +1,5 @@
-//! The programs of the language as the protocol takes them: what a program does on answers is its replay.
+//! The programs of the language as the protocol takes them: what a program does on answers is its replay. And the limits
+//! of the scripts that plans are made of.
 #![tactic(auto)]
 
 ghost use Rattle.programs.specs.Laws.{ProgramsWalk, PlansHavePrograms, ScriptsMeetPremises};
