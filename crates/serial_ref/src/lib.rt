@@ -7,6 +7,8 @@ mod execution;
 mod program;
 mod run;
 mod source;
+#[cfg(test)]
+mod tests;
 
 pub use effects::{Effects, Replay, SerialRun, Stop};
 pub use entries::{Entry, Map};
