@@ -1,5 +1,5 @@
 -- The walks of programs, from the laws of their replays.
-use Rattle.std.proofs.Common.{◌≡◌, ℕ, refl, ap, sym, ◌∙◌, subst, List, [], take, Option, Some, None}
+use Rattle.std.proofs.Common.{◌≡◌, ℕ, ◌<◌, ◌⊎◌, inl, inr, arith, refl, ap, sym, ◌∙◌, subst, List, [], take, Option, Some, None}
 use Rattle.std.specs.Prelude.{ℤ, map, ◌-◌, option_map}
 use Rattle.std.specs.List.{slice_get}
 use Rattle.morty_base.specs.declared.names.Key.{Key}
@@ -10,7 +10,7 @@ use Rattle.protocol.specs.Client.{Txn, walk_at}
 use Rattle.protocol.specs.World.{rules, txns_of}
 use Rattle.protocol.specs.Programs.{IsProgram, WritesGrow}
 use Rattle.programs.specs.Scripted.{write_of, program_walk, Start, txn_of, Scripted, plan_of}
-use Rattle.programs.specs.Laws.{ProgramsWalk, PlansHavePrograms}
+use Rattle.programs.specs.Laws.{ProgramsWalk, PlansHavePrograms, ScriptsMeetPremises}
 use Rattle.std.proofs.lemmas.Option.{slice_get-map}
 use Rattle.std.proofs.lemmas.List.{map-append}
 
@@ -55,3 +55,15 @@ plans_have_programs s = (
   λ c n. each_of (λ o. IsProgram (walk_at o)) nothing_asks (λ t. program_asks t.program) s c n,
   λ c n. each_of (λ o. WritesGrow (walk_at o)) nothing_writes (λ t. program_writes t.program) s c n,
 )
+
+some_replica : (n : ℕ) → (n ≡ 1) ⊎ ((n ≡ 3) ⊎ (n ≡ 5)) → 0 < n
+some_replica n (inl e) = omega (arith, e)
+some_replica n (inr (inl e)) = omega (arith, e)
+some_replica n (inr (inr e)) = omega (arith, e)
+
+pub scripts_meet_premises : ScriptsMeetPremises
+scripts_meet_premises s k = record {
+  replicas = some_replica s.replicas k.replicas;
+  programs = (plans_have_programs s).0;
+  grow = (plans_have_programs s).1;
+}

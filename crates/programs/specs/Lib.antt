@@ -1,3 +1,4 @@
 pub mod Scripted
+pub mod Limits
 pub mod Laws
 pub mod Samples

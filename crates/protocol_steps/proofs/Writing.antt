@@ -1,15 +1,14 @@
 -- What the acts of a client do to the writes of its execution.
-use Rattle.std.proofs.Common.{◌≡◌, ℕ, ℤ, ◌⊎◌, inl, inr, refl, ap, sym, ◌∙◌, subst, true, false, Bool, cond, List, [], ◌∷◌, ◌++◌, Option, Some, None, get_or, set}
+use Rattle.std.proofs.Common.{◌≡◌, ℕ, ℤ, inl, inr, refl, ap, sym, ◌∙◌, subst, Bool, List, [], ◌∷◌, ◌++◌, Option, Some, None, get_or, set}
 use Rattle.std.specs.Prelude.{zero, suc}
 use Rattle.std.proofs.lemmas.List.{append-nil}
 use Rattle.morty_base.specs.declared.names.Exec.{Exec}
 use Rattle.morty_base.specs.declared.names.Key.{Key}
 use Rattle.morty_base.specs.declared.names.Ending.{Ending}
 use Rattle.msg.specs.declared.Body.{Body}
-use Rattle.msg.specs.declared.Content.{Content}
 use Rattle.msg.specs.declared.Body.TheVariants.{Puts, Prepare}
 use Rattle.protocol.specs.Lists.{IsIn, one_when}
-use Rattle.protocol.specs.Client.{Rules, ClientState, Answer, values, walk, content, is_done}
+use Rattle.protocol.specs.Client.{Rules, ClientState, Answer, values, walk, content}
 use Rattle.protocol.specs.Notes.{with_answer, answer_at, no_answer}
 use Rattle.protocol.specs.Attempts.{question}
 use Rattle.protocol.proofs.Members.{IsIn-cases, IsIn-one_when}
@@ -84,12 +83,3 @@ prepares_writes r c c' e q run n = record {
   puts = λ x ws i. elim i [ inl z ↦ cc | inr z ↦ absurd z ];
   prepares = λ x k i. elim i [ inl z ↦ (let a : x ≡ c.exec = cc in let b : k ≡ content r c e = cc in (a, run, (e, b, q))) | inr z ↦ absurd z ];
 }
-
--- a content keeps all writes or none
-pub content_keeps : (r : Rules) (c : ClientState) (e : Ending) → ((content r c e).writes ≡ (walk r c).writes) ⊎ ((content r c e).writes ≡ [])
-unfolding content
-content_keeps r c e = kept (is_done e)
-  where
-    kept : (t : Bool) → (cond t (walk r c).writes [] ≡ (walk r c).writes) ⊎ (cond t (walk r c).writes [] ≡ [])
-    kept true = inl refl
-    kept false = inr refl

@@ -19,7 +19,7 @@ use Rattle.protocol_steps.proofs.Reach.Step.{Stands, Client_acts, Replica_acts, 
 use Rattle.protocol_steps.proofs.Reach.From.{Begins, Next}
 
 -- each record outside the script is as it was at first
-record Absent (p : Plan) (w : World) : Type 0 where
+pub record Absent (p : Plan) (w : World) : Type 0 where
   pub client : (c : ℕ) → (w.client c ≡ fresh_client) ⊎ (in_range c (length p.clients) ≡ true)
   pub replica : (r : ℕ) → (w.replica r ≡ []) ⊎ (in_range r p.replicas ≡ true)
   pub warden : (k : ℕ) → (w.warden k ≡ fresh_warden) ⊎ (in_range k p.wardens ≡ true)
@@ -28,7 +28,7 @@ record Absent (p : Plan) (w : World) : Type 0 where
 elsewhere : {A : Type 0} (z : A) (n k : ℕ) (a : A) (f : ℕ → A) → in_range k n ≡ true → (j : ℕ) → (f j ≡ z) ⊎ (in_range j n ≡ true) → (at k a f j ≡ z) ⊎ (in_range j n ≡ true)
 elsewhere {A = A} z n k a f real j old = at_cases (λ (b : A). (b ≡ z) ⊎ (in_range j n ≡ true)) k a f j (λ e. inr (subst (λ (i : ℕ). in_range i n ≡ true) (sym e) real)) old
 
-absent_reach : (p : Plan) (w : World) → Reach p w → Absent p w
+pub absent_reach : (p : Plan) (w : World) → Reach p w → Absent p w
 absent_reach p _ Begins = record { client = λ c. inl refl; replica = λ r. inl refl; warden = λ k. inl refl }
 absent_reach p _ (Next w w' q st) = go (absent_reach p w q) st
   where

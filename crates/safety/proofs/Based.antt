@@ -127,7 +127,7 @@ lock_later : (p : Plan) → 0 < p.replicas → (o w : World) → Reach p o → F
 lock_later p pos o _ r Begins x l = l
 lock_later p pos o _ r (Next w w' f s) x l = let q = from_trans p first_world o w r f in abandon_lock_stays p w w' q s (commit_ground p pos w q (safe_reach p pos w q)) x (lock_later p pos o w r f x l)
 
-sent_later : (p : Plan) (o w : World) → From p o w → (b : Body) → WasSent o b → WasSent w b
+pub sent_later : (p : Plan) (o w : World) → From p o w → (b : Body) → WasSent o b → WasSent w b
 sent_later p o _ Begins b t = t
 sent_later p o _ (Next w w' f s) b t = sent_grows p w w' s b (sent_later p o w f b t)
 

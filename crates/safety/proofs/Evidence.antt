@@ -152,11 +152,13 @@ act_evident p w w' q st c s sent new (Learns j d0 k0 n got e d f u) t = record {
 evident_grows : (p : Plan) (w w' : World) → Step p w w' → (s : ClientState) → Evident p.replicas w s → Evident p.replicas w' s
 evident_grows p w w' st s t = record { phase = λ k vs o acs h. evidence_grows p w w' st s.exec k vs o acs (t.phase k vs o acs h) }
 
--- a body to all is sent to replica 1, where there is one
-pub upto_one : (n : ℕ) → 0 < n → IsIn 1 (upto n)
-upto_one zero l = absurd (omega arith)
-upto_one (suc zero) l = inl refl
-upto_one (suc (suc n)) l = IsIn-left 1 (upto (suc n)) _ (upto_one (suc n) (omega arith))
+-- each of the numbers 1 to n
+pub upto_in : (n r : ℕ) → 0 < r → r ≤ n → IsIn r (upto n)
+upto_in zero r a b = absurd (omega arith)
+upto_in (suc n) r a b = elim (eqb_tells r (suc n)) [
+  | inl e ↦ IsIn-right r (upto n) (suc n ∷ []) (inl e.1)
+  | inr e ↦ (let f : r ≢ suc n = e.1 in IsIn-left r (upto n) (suc n ∷ []) (upto_in n r a (omega arith)))
+]
 
 pub IsIn-map_in : {A B : Type 0} (f : A → B) (a : A) (xs : List A) → IsIn a xs → IsIn (f a) (map f xs)
 IsIn-map_in f a [] i = i
@@ -165,7 +167,7 @@ IsIn-map_in f a (x ∷ xs) (inr i) = inr (IsIn-map_in f a xs i)
 
 to_all_one : (n : ℕ) (from : NodeId) (bs : List Body) (b : Body) → 0 < n → IsIn b bs → (e : Envelope) × IsIn e (flat_map (to_all n from) bs) × (e.body ≡ b)
 to_all_one n from [] b l i = absurd i
-to_all_one n from (c ∷ bs) b l (inl e) = (record { from = from; to = Replica 1; body = c }, IsIn-left _ (to_all n from c) _ (IsIn-map_in (λ r. record { from = from; to = Replica r; body = c }) 1 (upto n) (upto_one n l)), sym e)
+to_all_one n from (c ∷ bs) b l (inl e) = (record { from = from; to = Replica 1; body = c }, IsIn-left _ (to_all n from c) _ (IsIn-map_in (λ r. record { from = from; to = Replica r; body = c }) 1 (upto n) (upto_in n 1 (omega arith) (omega (arith, l)))), sym e)
 to_all_one n from (c ∷ bs) b l (inr i) = let k = to_all_one n from bs b l i in (k.0, IsIn-right k.0 (to_all n from c) _ k.1, k.2)
 
 -- what an act sends is in the mail

@@ -29,7 +29,7 @@ use Rattle.protocol_steps.proofs.Reach.From.{Begins, Next}
 use Rattle.protocol_steps.proofs.Mail.{took_reach}
 use Rattle.protocol_steps.proofs.Facts.{RFact, ToldFact, AcceptedFact, facts_reach, fact_cons}
 use Rattle.protocol_steps.proofs.WardFacts.{round_found, put_in}
-use Rattle.safety.proofs.Evidence.{distinct_more, distinct_map_more, absent_id, accepted_fact_grows, upto_one, IsIn-map_in}
+use Rattle.safety.proofs.Evidence.{distinct_more, distinct_map_more, absent_id, accepted_fact_grows, upto_in, IsIn-map_in}
 use Rattle.protocol.specs.Decided.{WasSent}
 use Rattle.safety.proofs.Locks.{sent_grows, replica_grows}
 
@@ -84,7 +84,7 @@ ward_sent p w w' s pos b i = let k = one s.sent i in record { envelope = k.0; th
   where
     one : (ps : List Parcel) → IsIn (To_all b) ps → (e : Envelope) × IsIn e (flat_map (parcel p.replicas (Warden s.k)) ps) × (e.body ≡ b)
     one [] i = absurd i
-    one (c ∷ ps) (inl e) = (record { from = Warden s.k; to = Replica 1; body = b }, IsIn-left _ (parcel p.replicas (Warden s.k) c) _ (rw (← e) (IsIn-map_in (λ r. record { from = Warden s.k; to = Replica r; body = b }) 1 (upto p.replicas) (upto_one p.replicas pos))), refl)
+    one (c ∷ ps) (inl e) = (record { from = Warden s.k; to = Replica 1; body = b }, IsIn-left _ (parcel p.replicas (Warden s.k) c) _ (rw (← e) (IsIn-map_in (λ r. record { from = Warden s.k; to = Replica r; body = b }) 1 (upto p.replicas) (upto_in p.replicas 1 (omega arith) (omega (arith, pos))))), refl)
     one (c ∷ ps) (inr i) = let k = one ps i in (k.0, IsIn-right k.0 (parcel p.replicas (Warden s.k) c) _ k.1, k.2)
 
 none_some : {A : Type 0} (a : A) → None ≡ Some a → ⊥

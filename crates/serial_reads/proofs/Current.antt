@@ -1,5 +1,5 @@
 -- Each read has the value of the write that it names.
-use Rattle.std.proofs.Common.{◌≡◌, ℕ, ℤ, ◌<◌, ◌⊎◌, inl, inr, refl, ap, sym, ◌∙◌, subst, true, Bool, List, [], ◌∷◌, ◌++◌, Option}
+use Rattle.std.proofs.Common.{◌≡◌, ℕ, ℤ, ◌<◌, inl, inr, refl, ap, sym, ◌∙◌, subst, true, Bool, List, [], ◌∷◌, ◌++◌, Option}
 use Rattle.std.specs.Prelude.{suc}
 use Rattle.morty_base.specs.declared.names.Exec.{Exec}
 use Rattle.morty_base.specs.declared.names.Key.{Key}
@@ -29,7 +29,8 @@ use Rattle.serial_reads.specs.Programs.{ReadsCurrent}
 use Rattle.serial_reads.proofs.Read.{Source, note_reach}
 use Rattle.serial_reads.proofs.Read.Source.{Certain, Put_by}
 use Rattle.serial_reads.proofs.Read.Sure.{Firsts, Lasts}
-use Rattle.serial_reads.proofs.Fronts.{Fronts, IsFront, fronts_reach}
+use Rattle.serial_reads.specs.Fronts.{IsFront}
+use Rattle.serial_reads.proofs.Fronts.{Fronts, written_front, fronts_reach}
 use Rattle.serial_reads.proofs.Noted.{reads_noted, reads_sure}
 
 entries_front : (x : Exec) (i : ℕ) (ws more : List Write) (d : BaseEntry) → IsIn d (entries_of x i ws) → IsIn d (entries_of x i (ws ++ more))
@@ -44,7 +45,8 @@ module _ (p : Plan) (pos : 0 < p.replicas) (w : World) (q : Reach p w) (f : Fron
       let a = (entry_wid y 1 ws (record { key = k; wid = wid; value = value }) i).0 in
       let z : y.ver ≡ no_version = sym a ∙ ap (λ (u : Wid). u.ver) e in
       absurd (true_false (sym (subst (λ (v : Version). before no_version v ≡ true) z n) ∙ before_self no_version))
-  same_value y ws n t i other (Last_write x l c u last) = go (f.prepared y ws l t (subst (λ (z : Exec). WasSent w (Prepare z l)) same u))
+  same_value y ws n t i other (Last_write x l c u last) = go (written_front ws l (f.prepared y ws l t (subst (λ (z : Exec). WasSent w (Prepare z l)) same u))
+      (λ e. subst (λ (vs : List Write). IsIn (record { key = k; wid = wid; value = other }) (entries_of x 1 vs)) e last.entry))
     where
       same : x ≡ y
       same =
@@ -52,9 +54,8 @@ module _ (p : Plan) (pos : 0 < p.replicas) (w : World) (q : Reach p w) (f : Fron
           let b = entry_wid x 1 l.writes (record { key = k; wid = wid; value = other }) last.entry in
           λ z. record { ver = (sym b.0 ∙ a.0) z; eid = (sym b.1 ∙ a.1) z }
 
-      go : IsFront ws l.writes ⊎ (l.writes ≡ []) → IsSure p w k wid value
-      go (inr e) = absurd (subst (λ (vs : List Write). IsIn (record { key = k; wid = wid; value = other }) (entries_of x 1 vs)) e last.entry)
-      go (inl front) =
+      go : IsFront ws l.writes → IsSure p w k wid value
+      go front =
           let mine : IsIn (record { key = k; wid = wid; value = value }) (entries_of x 1 l.writes) = subst (λ (z : Exec). IsIn (record { key = k; wid = wid; value = value }) (entries_of z 1 l.writes)) (sym same)
           (subst (λ (vs : List Write). IsIn (record { key = k; wid = wid; value = value }) (entries_of y 1 vs)) (sym front.1) (entries_front y 1 ws front.0 (record { key = k; wid = wid; value = value }) i)) in
           let one = entry_one x 1 l.writes (record { key = k; wid = wid; value = other }) (record { key = k; wid = wid; value = value }) last.entry mine refl in

@@ -1,39 +1,55 @@
 -- The writes that an execution puts are a front of those that it prepares.
-use Rattle.std.proofs.Common.{◌≡◌, ℕ, ℤ, ◌-◌, ◌⊎◌, inl, inr, refl, ap, sym, ◌∙◌, subst, List, [], ◌++◌, append_assoc}
+use Rattle.std.proofs.Common.{◌≡◌, ℕ, ℤ, ◌-◌, ◌⊎◌, inl, inr, refl, ap, sym, ◌∙◌, subst, List, [], ◌++◌, append_assoc, Some}
 use Rattle.std.specs.List.{slice_get}
 use Rattle.std.proofs.lemmas.List.{append-nil}
 use Rattle.morty_base.specs.declared.names.Exec.{Exec}
+use Rattle.morty_base.specs.declared.names.Ending.{Ending}
+use Rattle.morty_base.specs.declared.names.Ending.TheVariants.{Done, Abort, Overflow, ZeroDivisor}
 use Rattle.msg.specs.declared.Body.{Body}
 use Rattle.msg.specs.declared.Content.{Content}
 use Rattle.msg.specs.declared.Write.{Write}
 use Rattle.msg.specs.declared.Body.TheVariants.{Puts, Prepare}
 use Rattle.protocol.specs.Lists.{IsIn}
-use Rattle.protocol.specs.Client.{ClientState, values, walk, walk_at}
+use Rattle.protocol.specs.Client.{ClientState, Rules, content, values, walk, walk_at}
 use Rattle.protocol.specs.Programs.{WritesGrow}
-use Rattle.protocol.specs.World.{Plan, World, rules}
+use Rattle.protocol.specs.World.{Plan, World, first_world, replay_from, rules}
 use Rattle.protocol.specs.Decided.{WasSent}
 use Rattle.protocol.proofs.Members.{at_cases, at_same}
 use Rattle.protocol_steps.specs.Executions.{IsEarlier}
 use Rattle.protocol_steps.proofs.Acts.{IsRunning, Continues, WriteStep}
 use Rattle.protocol_steps.proofs.Phases.{running_under_way}
-use Rattle.protocol_steps.proofs.Writing.{content_keeps}
-use Rattle.protocol_steps.proofs.Reach.{Step, Reach, ClientActs, GotAt}
+use Rattle.protocol_steps.proofs.Reach.{Step, Reach, ClientActs, GotAt, events_reach}
 use Rattle.protocol_steps.proofs.Reach.Step.{Stands, Client_acts, Replica_acts, Warden_acts}
 use Rattle.protocol_steps.proofs.Reach.From.{Begins, Next}
 use Rattle.protocol_steps.proofs.ClientFacts.{act_exec, earlier_trans, rec_reach, HasPrepared}
 use Rattle.safety.proofs.One.{prepare_from, not_at, running_between, running_prepared, earlier_itself}
 use Rattle.safety.proofs.Stays.{Origin, origin}
 use Rattle.safety.proofs.Stays.Origin.{Old, Of_replica, Of_client, Of_warden}
-
--- the list begins with these
-abbrev pub IsFront : List Write → List Write → Type 0
-IsFront ws vs = (more : List Write) × (vs ≡ ws ++ more)
+use Rattle.serial_reads.specs.Fronts.{IsFront, IsPutFirst, PutsAreFronts}
 
 front_itself : (ws vs : List Write) → ws ≡ vs → IsFront ws vs
 front_itself ws vs e = ([], sym e ∙ sym (append-nil ws))
 
 front_more : (ws us vs : List Write) → IsFront ws us → IsFront us vs → IsFront ws vs
 front_more ws us vs a b = (a.0 ++ b.0, b.1 ∙ ap (λ (l : List Write). l ++ b.0) a.1 ∙ append_assoc ws a.0 b.0)
+
+-- a content that is prepared keeps the writes of its program where its ending is Done, else none
+content_front : (r : Rules) (c : ClientState) (e : Ending) (ws : List Write) → IsFront ws (walk r c).writes → IsPutFirst ws (content r c e)
+unfolding content
+content_front r c Done ws f = record { done = λ d. f; other = λ n. absurd (n refl) }
+content_front r c Abort ws f = record { done = λ d. absurd cc; other = λ n. refl }
+content_front r c Overflow ws f = record { done = λ d. absurd cc; other = λ n. refl }
+content_front r c ZeroDivisor ws f = record { done = λ d. absurd cc; other = λ n. refl }
+
+-- a content that keeps a write is one that is Done
+pub written_front : (ws : List Write) (k : Content) → IsPutFirst ws k → (k.writes ≡ [] → ⊥) → IsFront ws k.writes
+written_front ws k f some = go k.ending refl
+  where
+    go : (e : Ending) → k.ending ≡ e → IsFront ws k.writes
+    go Done e = f.done e
+    go Abort e = absurd (some (f.other (λ d. cc)))
+    go Overflow e = absurd (some (f.other (λ d. cc)))
+    go ZeroDivisor e = absurd (some (f.other (λ d. cc)))
 
 -- what a client's step does to its record
 record Move (p : Plan) (c : ℕ) (s s' : ClientState) : Type 0 where
@@ -53,7 +69,7 @@ client_moves p w w' (Client_acts s) c = subst (λ (f : ℕ → ClientState). (f 
 pub record Fronts (p : Plan) (w : World) : Type 0 where
   pub old : (y : Exec) (ws : List Write) → WasSent w (Puts y ws) → IsEarlier y (w.client y.ver.client).exec ⊎ (y ≡ (w.client y.ver.client).exec)
   pub front : (y : Exec) (ws : List Write) → WasSent w (Puts y ws) → y ≡ (w.client y.ver.client).exec → IsRunning (w.client y.ver.client).phase → IsFront ws (walk (rules p y.ver.client) (w.client y.ver.client)).writes
-  pub prepared : (y : Exec) (ws : List Write) (k : Content) → WasSent w (Puts y ws) → WasSent w (Prepare y k) → IsFront ws k.writes ⊎ (k.writes ≡ [])
+  pub prepared : (y : Exec) (ws : List Write) (k : Content) → WasSent w (Puts y ws) → WasSent w (Prepare y k) → IsPutFirst ws k
 
 -- a Puts of this moment
 abbrev IsNow : Plan → ClientState → ℕ → Exec → List Write → Type 0
@@ -118,26 +134,26 @@ module _ (p : Plan) (grow : (c n : ℕ) → WritesGrow (walk_at (slice_get (rule
       go (Of_warden k a i e f) = absurd f
       go (Of_client cs i) = front_itself ws _ (now cs y ws i).2
 
-  prepared_step : (y : Exec) (ws : List Write) (k : Content) → WasSent w' (Puts y ws) → WasSent w' (Prepare y k) → IsFront ws k.writes ⊎ (k.writes ≡ [])
+  prepared_step : (y : Exec) (ws : List Write) (k : Content) → WasSent w' (Puts y ws) → WasSent w' (Prepare y k) → IsPutFirst ws k
   prepared_step y ws k t u = go (origin p w w' q st _ t)
     where
-      fresh : WasSent w (Puts y ws) → Origin p w w' (Prepare y k) → IsFront ws k.writes ⊎ (k.writes ≡ [])
+      fresh : WasSent w (Puts y ws) → Origin p w w' (Prepare y k) → IsPutFirst ws k
       fresh z (Old v) = s.prepared y ws k z v
       fresh z (Of_replica r f) = absurd f
       fresh z (Of_warden j a i e f) = absurd f
-      fresh z (Of_client cs i) = elim here [ inl e ↦ inl (subst (λ (l : List Write). IsFront ws l) (sym e) whole) | inr e ↦ inr e ]
+      fresh z (Of_client cs i) = subst (λ (l : Content). IsPutFirst ws l) (sym n.2.1) (content_front (rules p cs.c) (w.client cs.c) n.2.0 ws whole)
         where
-          here : (k.writes ≡ (walk (rules p cs.c) (w.client cs.c)).writes) ⊎ (k.writes ≡ [])
-          here = let e = (cs.writes.prepares y k i).2 in subst (λ (l : Content). (l.writes ≡ (walk (rules p cs.c) (w.client cs.c)).writes) ⊎ (l.writes ≡ [])) (sym e.1) (content_keeps (rules p cs.c) (w.client cs.c) e.0)
+          n : (y ≡ (w.client cs.c).exec) × IsRunning (w.client cs.c).phase × ((e : Ending) × (k ≡ content (rules p cs.c) (w.client cs.c) e) × ((walk (rules p cs.c) (w.client cs.c)).ending ≡ Some e))
+          n = cs.writes.prepares y k i
 
           mine : y.ver.client ≡ cs.c
-          mine = ap (λ (x : Exec). x.ver.client) (cs.writes.prepares y k i).0 ∙ (rec_reach p w q cs.c).own (running_under_way (w.client cs.c).phase (cs.writes.prepares y k i).1)
+          mine = ap (λ (x : Exec). x.ver.client) n.0 ∙ (rec_reach p w q cs.c).own (running_under_way (w.client cs.c).phase n.1)
 
           whole : IsFront ws (walk (rules p cs.c) (w.client cs.c)).writes
           whole = subst (λ (j : ℕ). IsFront ws (walk (rules p j) (w.client j)).writes) mine
-              (s.front y ws z (subst (λ (j : ℕ). y ≡ (w.client j).exec) (sym mine) (cs.writes.prepares y k i).0) (subst (λ (j : ℕ). IsRunning (w.client j).phase) (sym mine) (cs.writes.prepares y k i).1))
+              (s.front y ws z (subst (λ (j : ℕ). y ≡ (w.client j).exec) (sym mine) n.0) (subst (λ (j : ℕ). IsRunning (w.client j).phase) (sym mine) n.1))
 
-      go : Origin p w w' (Puts y ws) → IsFront ws k.writes ⊎ (k.writes ≡ [])
+      go : Origin p w w' (Puts y ws) → IsPutFirst ws k
       go (Old z) = fresh z (origin p w w' q st _ u)
       go (Of_replica r f) = absurd f
       go (Of_warden j a i e f) = absurd f
@@ -150,3 +166,6 @@ pub fronts_reach : (p : Plan) → ((c n : ℕ) → WritesGrow (walk_at (slice_ge
 fronts_reach p grow _ Begins = record { old = λ y ws t. absurd t.there; front = λ y ws t. absurd t.there; prepared = λ y ws k t. absurd t.there }
 fronts_reach p grow _ (Next w w' q st) = let s = fronts_reach p grow w q in
     record { old = old_step p grow w w' q st s; front = front_step p grow w w' q st s; prepared = prepared_step p grow w w' q st s }
+
+pub puts_are_fronts : PutsAreFronts
+puts_are_fronts p grow events = (fronts_reach p grow (replay_from p first_world events) (events_reach p first_world first_world Begins events)).prepared

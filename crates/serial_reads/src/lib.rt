@@ -9,6 +9,7 @@
 //! reader (`Between`). Each content that was prepared is a replay of its program (`Replayed`).
 #![tactic(auto)]
 
+ghost use Rattle.serial_reads.specs.Fronts.{PutsAreFronts};
 ghost use Rattle.serial_reads.specs.Reads.{SureNotes, NothingBetween};
 ghost use Rattle.serial_reads.specs.Programs.{ReadsNoted, ReadsSure, ReadsCurrent};
 ghost use Rattle.serial_reads.specs.Replays.{ContentsReplayed};
@@ -31,6 +32,11 @@ pub fn reads_noted()
 /// The write name of each read of a prepared content is that of a first value or of a committed last write, below it.
 pub fn reads_sure()
     ensures { ReadsSure }
+{}
+
+/// The writes that an execution puts are the first of those that it prepares; where its ending is not Done, it keeps none.
+pub fn puts_are_fronts()
+    ensures { PutsAreFronts }
 {}
 
 /// Each read of a prepared content has the value of the write that it names.

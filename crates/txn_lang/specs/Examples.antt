@@ -1,4 +1,4 @@
--- Two programs, and what they do.
+-- Programs, and what they do.
 use Rattle.std.specs.Prelude.{◌≡◌, ℕ, List, [], ◌∷◌, Some, None, ℤ, pos}
 use Rattle.morty_base.specs.declared.names.Key.{Key}
 use Rattle.morty_base.specs.declared.names.Ending.TheVariants as ending
@@ -28,6 +28,14 @@ pay =
     (Then (Write 0 (Num (pos 2)) (Num (pos 1))) (Then Abort End)) End)
     (Then (Write 0 (Num (pos 1)) (Bin Sub (Local 0) (Num (pos 10)))) (Then (Print (Local 0)) End)))
 
+-- read a x[1]; read b x[1]; print b
+abbrev pub twice : Commands
+twice = Then (Read 0 0 (Num (pos 1))) (Then (Read 1 0 (Num (pos 1))) (Then (Print (Local 1)) End))
+
+-- write x[1] 5; read a x[1]; print a
+abbrev pub own : Commands
+own = Then (Write 0 (Num (pos 1)) (Num (pos 5))) (Then (Read 0 0 (Num (pos 1))) (Then (Print (Local 0)) End))
+
 -- the first program asks for one place after another, and prints their sum
 pub record FiveReads : Type 0 where
   pub asks_first : replay_tree five 3 [] ≡
@@ -42,3 +50,14 @@ pub record PayAborts : Type 0 where
   pub ends : (replay_tree pay 1 (pos 4 ∷ [])).ending ≡ Some ending.Abort
   pub made : (replay_tree pay 1 (pos 4 ∷ [])).writes ≡ entry (x_at 2) (pos 1) ∷ []
   pub kept_none : kept (replay_tree pay 1 (pos 4 ∷ [])) ≡ []
+
+-- the third asks for its key once: the second read shows the first answer, and a further answer is not taken
+pub record ReadsTwice : Type 0 where
+  pub asks : (replay_tree twice 2 []).asks ≡ Some (x_at 1)
+  pub shows_first : replay_tree twice 2 (pos 7 ∷ pos 8 ∷ []) ≡
+      record { reads = entry (x_at 1) (pos 7) ∷ []; writes = []; out = pos 7 ∷ []; begun = 3; asks = None; ending = Some ending.Done; known = entry (x_at 1) (pos 7) ∷ [] }
+
+-- the fourth asks for nothing: it reads the key that it wrote
+pub record ReadsOwnWrite : Type 0 where
+  pub shows_own : replay_tree own 1 [] ≡
+      record { reads = []; writes = entry (x_at 1) (pos 5) ∷ []; out = pos 5 ∷ []; begun = 3; asks = None; ending = Some ending.Done; known = entry (x_at 1) (pos 5) ∷ [] }

@@ -1,7 +1,7 @@
 ghost use Rattle.std.specs.Prelude.{ℕ};
 ghost use Rattle.txn_lang.specs.declared.tree.Block.{Block as BlockValue};
 ghost use Rattle.txn_lang.specs.Runs.{replay};
-ghost use Rattle.txn_lang.specs.Examples.{FiveReads, PayAborts};
+ghost use Rattle.txn_lang.specs.Examples.{FiveReads, PayAborts, ReadsTwice, ReadsOwnWrite};
 ghost use Rattle.txn_lang.specs.Laws.{TakesAnswers, GrowsWithAnswers, ReadsWhatItAsked, AsksOnce, KnowsItsOwn, GoesOnWithAnswer, ReplaysSerial, KeepsLimits};
 
 /// A replay is a function of the answers that it takes.
@@ -44,8 +44,10 @@ pub fn runs_keep_limits()
     ensures { (body : BlockValue) (n : ℕ) → KeepsLimits body n }
 {}
 
-/// What two programs do on some answers.
+/// What some programs do on some answers.
 pub fn worked_programs()
     ensures five { FiveReads }
     ensures pay { PayAborts }
+    ensures twice { ReadsTwice }
+    ensures own { ReadsOwnWrite }
 {}

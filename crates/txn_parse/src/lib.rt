@@ -14,4 +14,6 @@ pub use symbols::{Symbol, symbol_of};
 pub use tree::{RawBlock, RawExpr, RawProg, RawStmt};
 
 #[cfg(test)]
+mod grouping_tests;
+#[cfg(test)]
 mod tests;

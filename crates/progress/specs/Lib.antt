@@ -1,0 +1,4 @@
+pub mod Undisturbed
+pub mod Apart
+pub mod First
+pub mod Quiet

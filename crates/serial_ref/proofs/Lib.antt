@@ -1,0 +1,4 @@
+pub mod Maps
+pub mod Steps
+pub mod Repeats
+pub mod Samples

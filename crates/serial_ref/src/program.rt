@@ -1,0 +1,68 @@
+ghost use Rattle.std.specs.Prelude.{◌≡◌, OnOk, OnErr, IfOk, map};
+ghost use Rattle.txn_lang.specs.Program.{replay_of, serial_of, map_after, serial, last_map};
+ghost use Rattle.serial_ref.specs.Whole.{run_of_replay, run_of_serial, run_of};
+
+use crate::effects::{Effects, Replay, SerialRun, Stop};
+use crate::entries::Map;
+use crate::execution::Execution;
+use crate::run::block;
+use crate::source::{Answers, Held, Source};
+use morty_base::{Ending, List, NoMemory};
+use std::alloc::Global;
+use txn_lang::{Prog, replay_is_serial};
+
+/// A program from its first statement, with answers from this source.
+fn run<S: Source>(alloc: Global, prog: &Prog, source: S) -> Result<Replay, NoMemory>
+    ensures { IfOk result (λ r. run_of_replay r ≡ run_of S.answer prog.now source) }
+{
+    let mut at = Execution {
+        source,
+        locals: List::from_vec(vec![in alloc; 0; prog.names().len()]?),
+        did: Effects::new(alloc),
+    };
+    let stop = block(&mut at, prog.body())?;
+    Ok(Replay {
+        did: at.did,
+        stop: stop.unwrap_or(Stop::Ends(Ending::Done)),
+    })
+}
+
+/// The replay of a program on a list of answers, which it takes in order: where it asks for a key it stops.
+pub fn run_on_answers(alloc: Global, prog: &Prog, answers: &[i64]) -> Result<Replay, NoMemory>
+    ensures { IfOk result (λ r. run_of_replay r ≡ replay_of prog.now answers.now) }
+{
+    run(alloc, prog, Answers::new(answers))
+}
+
+/// The serial run of a program on a map, on which it makes the writes that it keeps.
+pub fn run_on_map(alloc: Global, prog: &Prog, cells: &mut Map) -> Result<SerialRun, NoMemory>
+    ensures run { IfOk result (λ r. run_of_serial r ≡ serial_of prog.now cells.old) }
+    ensures written { OnOk result (cells.new ≡ map_after cells.old prog.now) }
+    ensures unchanged { OnErr result (cells.new ≡ cells.old) }
+{
+    let replay = run(alloc, prog, Held::new(cells))?;
+    replay_is_serial();
+    let run = replay.into_serial();
+    cells.insert_all(run.kept())?;
+    Ok(run)
+}
+
+/// What programs did one after another, and the map that they left.
+#[derive(Debug, Drop)]
+pub struct SerialRuns {
+    pub runs: List<SerialRun>,
+    pub cells: Map,
+}
+
+/// The serial runs of programs that stand in rising order of version: each runs on the map that those before it left.
+pub fn serial(alloc: Global, first: &Map, progs: &[&Prog]) -> Result<SerialRuns, NoMemory>
+    ensures runs { IfOk result (λ s. map run_of_serial s.runs ≡ serial first.now (map (λ p. p.now) progs.now)) }
+    ensures cells { IfOk result (λ s. s.cells ≡ last_map first.now (map (λ p. p.now) progs.now)) }
+{
+    let mut cells = first.copy(alloc)?;
+    let mut runs = List::new(alloc);
+    for prog in progs {
+        runs.push(run_on_map(alloc, prog, &mut cells)?)?;
+    }
+    Ok(SerialRuns { runs, cells })
+}
