@@ -1,0 +1,5 @@
+use Rattle.view_cell.proofs.Takes.{decisions_stand}
+use Rattle.view_cell.proofs.decisions_stand.Goals as goal
+
+pub returns : goal.returns
+returns c = decisions_stand
