@@ -10,3 +10,6 @@ mod state;
 
 pub use laws::recovery_keeps_truncations;
 pub use recoverer::Recoverer;
+
+#[cfg(test)]
+mod tests;
