@@ -1,0 +1,5 @@
+pub mod Turns
+pub mod Places
+pub mod Steps
+pub mod Hearing
+pub mod Unasked

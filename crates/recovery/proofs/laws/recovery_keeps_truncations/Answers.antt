@@ -1,0 +1,5 @@
+use Rattle.recovery.proofs.Turns.{keeps_truncations}
+use Rattle.recovery.proofs.laws.recovery_keeps_truncations.Goals as goal
+
+pub returns : goal.returns
+returns c = keeps_truncations

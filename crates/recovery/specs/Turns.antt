@@ -1,0 +1,59 @@
+-- What a Recoverer stands for, and what its calls tell and do.
+use Rattle.std.specs.Prelude.{◌≡◌, ℕ, Bool, false, not, ◌&&◌, ◌==◌, nat_le, List, [], ◌∷◌, ◌++◌, Option, is_none, is_some, flat_map}
+use Rattle.std.specs.List.{list_any}
+use Rattle.std.specs.Option.{option_map, option_and_then}
+use Rattle.morty_base.specs.declared.names.Exec.{Exec}
+use Rattle.morty_base.specs.declared.names.NodeId.TheVariants.{Warden}
+use Rattle.msg.specs.declared.Choice.{Choice}
+use Rattle.msg.specs.declared.Content.{Content}
+use Rattle.msg.specs.declared.Envelope.{Envelope}
+use Rattle.morty_base.specs.Names.{same_exec}
+use Rattle.protocol.specs.Warden.{Round, WardenRules, WardenState, WardenTurn, decision_on}
+use Rattle.protocol.specs.Recovery.{next_view}
+use Rattle.protocol.specs.World.{parcel}
+
+-- what a warden is given and remembers, and whether it is broken, as a call that changed it ran out of memory
+pub record RecoveringWarden : Type 0 where
+  pub rules : WardenRules
+  pub state : WardenState
+  pub broken : Bool
+
+-- x is undecided, and the next view for it is a number that an envelope can carry
+abbrev pub can_recover : RecoveringWarden → Exec → Bool
+can_recover w x = is_none (decision_on w.state x) && nat_le (next_view w.rules w.state x) 4294967295
+
+-- the choice that this warden decided
+abbrev pub decided_choice : WardenState → Exec → Option Choice
+decided_choice s x = option_map (λ d. d.proposal.choice) (decision_on s x)
+
+-- the content that it decided, which is there for Commit alone
+abbrev pub decided_content : WardenState → Exec → Option Content
+decided_content s x = option_and_then (λ d. d.proposal.content) (decision_on s x)
+
+-- the round is of x in this view
+abbrev pub is_of : Exec → ℕ → Round → Bool
+is_of x view a = same_exec x a.exec && (a.view == view)
+
+-- a Told of the replica counts: the choice is not fixed, and none of its own came before
+abbrev pub counts_told : Round → ℕ → Bool
+counts_told a j = is_none a.proposal && not (list_any (λ u. u.replica == j) a.tolds)
+
+-- an Accepted of the replica counts: there is a proposal, and it has not accepted it before
+abbrev pub counts_accept : Round → ℕ → Bool
+counts_accept a j = is_some a.proposal && not (list_any (λ i. i == j) a.accepts)
+
+-- one more replica accepted what is proposed
+abbrev pub accepted_by : Round → ℕ → Round
+accepted_by a j = record a { accepts = a.accepts ++ j ∷ [] }
+
+-- the state after a turn, and its envelopes behind those that were there before
+pub record TakesTurn (r : WardenRules) (t : WardenTurn) (state : WardenState) (before after : List Envelope) : Type 0 where
+  pub state_is : state ≡ t.state
+  pub sent : after ≡ before ++ flat_map (parcel r.replicas (Warden r.warden)) t.sent
+
+-- a warden that is not broken takes a turn
+pub record Does (t : WardenTurn) (old new : RecoveringWarden) (before after : List Envelope) : Type 0 where
+  pub whole : old.broken ≡ false
+  pub still_whole : new.broken ≡ false
+  pub rules : new.rules ≡ old.rules
+  pub turn : TakesTurn old.rules t new.state before after
