@@ -1,0 +1,124 @@
+-- How the definitions over a list grow by one element at its end, and what they are on the rest of a list.
+use Rattle.std.proofs.Common.{◌≡◌, ℕ, suc, ◌+◌, ◌<◌, Bool, true, false, cond, List, [], ◌∷◌, ◌++◌, length, length-take, get_or, take, filter, refl, ap, sym, subst, ◌∙◌, Option, Some, None, arith, ◌&&◌}
+use Rattle.std.specs.Prelude.{find, pos, map}
+use Rattle.std.specs.List.{filter_map, cons_option}
+use Rattle.std.specs.Option.{option_to_list}
+use Rattle.std.proofs.lemmas.List.{take_more}
+use Rattle.protocol.specs.Lists.{first_of_two, when}
+use Rattle.morty_base.specs.declared.names.Version.{Version}
+use Rattle.morty_base.specs.declared.names.Exec.{Exec}
+use Rattle.morty_base.specs.declared.names.Key.{Key}
+use Rattle.morty_base.specs.Names.{before, wid_before, same_key}
+use Rattle.msg.specs.declared.Write.{Write}
+use Rattle.protocol.specs.declared.Held.{Held}
+use Rattle.protocol.specs.declared.First2.{First2}
+use Rattle.protocol.specs.Held.{best_below, last_write, first_held, first_value}
+
+cons_option_append : {X : Type 0} (o : Option X) (xs ys : List X) → cons_option o (xs ++ ys) ≡ cons_option o xs ++ ys
+cons_option_append None xs ys = refl
+cons_option_append (Some x) xs ys = refl
+
+cons_option_nil : {X : Type 0} (o : Option X) → cons_option o [] ≡ option_to_list o
+cons_option_nil None = refl
+cons_option_nil (Some x) = refl
+
+pub filter_map_push : {X Y : Type 0} (f : X → Option Y) (xs : List X) (x : X) → filter_map f (xs ++ x ∷ []) ≡ filter_map f xs ++ option_to_list (f x)
+filter_map_push f [] x = cons_option_nil (f x)
+filter_map_push f (y ∷ ys) x = ap (cons_option (f y)) (filter_map_push f ys x) ∙ cons_option_append (f y) (filter_map f ys) (option_to_list (f x))
+
+-- one more element of a list that is gone through
+pub filter_map_more : {X Y : Type 0} (f : X → Option Y) (xs : List X) (i : ℕ) (d : X) → i < length xs → filter_map f (take (i + 1) xs) ≡ filter_map f (take i xs) ++ option_to_list (f (get_or xs i d))
+filter_map_more f xs i d h = ap (filter_map f) (take_more xs i d h) ∙ filter_map_push f (take i xs) (get_or xs i d)
+
+pub filter_map_next : {X Y : Type 0} (f : X → Option Y) (xs ys : List X) (i : ℕ) (d : X) → xs ≡ ys → i < length xs → filter_map f (take i ys) ++ option_to_list (f (get_or xs i d)) ≡ filter_map f (take (i + 1) ys)
+filter_map_next f xs ys i d e h = subst (λ zs. filter_map f (take i zs) ++ option_to_list (f (get_or xs i d)) ≡ filter_map f (take (i + 1) zs)) e (sym (filter_map_more f xs i d h))
+
+-- a filter is a case of the map after it
+pub filter_map_filter : {X Y : Type 0} (p : X → Bool) (f : X → Option Y) (xs : List X) → filter_map (λ x. cond (p x) (f x) None) xs ≡ filter_map f (filter p xs)
+filter_map_filter p f [] = refl
+filter_map_filter {X = X} {Y = Y} p f (x ∷ xs) = go (p x) (filter_map_filter p f xs)
+  where
+    go : (b : Bool) → filter_map (λ y. cond (p y) (f y) None) xs ≡ filter_map f (filter p xs) → cons_option (cond b (f x) None) (filter_map (λ y. cond (p y) (f y) None) xs) ≡ filter_map f (cond b (x ∷ filter p xs) (filter p xs))
+    go true e = ap (cons_option (f x)) e
+    go false e = e
+
+-- so is a map after a filter
+pub filter_map_when : {X Y : Type 0} (p : X → Bool) (f : X → Y) (xs : List X) → filter_map (λ x. when (p x) (f x)) xs ≡ map f (filter p xs)
+filter_map_when p f [] = refl
+filter_map_when {X = X} {Y = Y} p f (x ∷ xs) = go (p x) (filter_map_when p f xs)
+  where
+    go : (b : Bool) → filter_map (λ y. when (p y) (f y)) xs ≡ map f (filter p xs) → cons_option (when b (f x)) (filter_map (λ y. when (p y) (f y)) xs) ≡ map f (cond b (x ∷ filter p xs) (filter p xs))
+    go true e = ap (λ l. f x ∷ l) e
+    go false e = e
+
+-- two maps that agree
+pub filter_map_same : {X Y : Type 0} (f g : X → Option Y) → ((x : X) → f x ≡ g x) → (xs : List X) → filter_map f xs ≡ filter_map g xs
+filter_map_same f g same [] = refl
+filter_map_same f g same (x ∷ xs) = ap (λ o. cons_option o (filter_map f xs)) (same x) ∙ ap (cons_option (g x)) (filter_map_same f g same xs)
+
+pub first_of_two_assoc : {X : Type 0} (a b c : Option X) → first_of_two (first_of_two a b) c ≡ first_of_two a (first_of_two b c)
+first_of_two_assoc None b c = refl
+first_of_two_assoc (Some x) b c = refl
+
+pub first_of_two_none : {X : Type 0} (a : Option X) → first_of_two a None ≡ a
+first_of_two_none None = refl
+first_of_two_none (Some x) = refl
+
+pub find_append : {X : Type 0} (p : X → Bool) (xs ys : List X) → find p (xs ++ ys) ≡ first_of_two (find p xs) (find p ys)
+find_append p [] ys = refl
+find_append p (x ∷ xs) ys = go (p x) (find_append p xs ys)
+  where
+    go : (b : Bool) → find p (xs ++ ys) ≡ first_of_two (find p xs) (find p ys) → cond b (Some x) (find p (xs ++ ys)) ≡ first_of_two (cond b (Some x) (find p xs)) (find p ys)
+    go true e = refl
+    go false e = e
+
+-- of two writes the later one that stands below a version
+abbrev pub better : Version → Held → Held → Held
+better v b a = cond (before a.wid.ver v && wid_before b.wid a.wid) a b
+
+best_below_push : (v : Version) (b : Held) (xs : List Held) (a : Held) → best_below v b (xs ++ a ∷ []) ≡ better v (best_below v b xs) a
+best_below_push v b [] a = refl
+best_below_push v b (x ∷ xs) a = best_below_push v (better v b x) xs a
+
+pub best_below_more : (v : Version) (b : Held) (xs : List Held) (i : ℕ) (d : Held) → i < length xs → best_below v b (take (i + 1) xs) ≡ better v (best_below v b (take i xs)) (get_or xs i d)
+best_below_more v b xs i d h = ap (best_below v b) (take_more xs i d h) ∙ best_below_push v b (take i xs) (get_or xs i d)
+
+pub best_below_next : (v : Version) (b cur r : Held) (xs : List Held) (i : ℕ) (d : Held) → i < length xs → cur ≡ best_below v b (take i xs) → r ≡ better v cur (get_or xs i d) → r ≡ best_below v b (take (i + 1) xs)
+best_below_next v b cur r xs i d h e f = f ∙ (ap (λ c. better v c (get_or xs i d)) e ∙ sym (best_below_more v b xs i d h))
+
+-- the last write at the place i of an execution's list
+abbrev pub write_at : Exec → Bool → ℕ → Key → Write → Option Held
+write_at x sure i k w = when (same_key k w.key) (record { wid = record { ver = x.ver; eid = x.eid; seq = i }; value = w.value; sure = sure })
+
+pub last_write_push : (x : Exec) (sure : Bool) (i : ℕ) (k : Key) (ws : List Write) (w : Write) → last_write x sure i k (ws ++ w ∷ []) ≡ first_of_two (write_at x sure (length ws + i) k w) (last_write x sure i k ws)
+last_write_push x sure i k [] w =
+    let e : 0 + i ≡ i = omega arith in
+    rw e (sym (first_of_two_none (write_at x sure i k w)))
+last_write_push x sure i k (y ∷ ys) w =
+    let e : length ys + suc i ≡ suc (length ys) + i = omega arith in
+    ap (λ o. first_of_two o (write_at x sure i k y)) (last_write_push x sure (suc i) k ys w)
+    ∙ (ap (λ n. first_of_two (first_of_two (write_at x sure n k w) (last_write x sure (suc i) k ys)) (write_at x sure i k y)) e
+    ∙ first_of_two_assoc (write_at x sure (suc (length ys) + i) k w) (last_write x sure (suc i) k ys) (write_at x sure i k y))
+
+pub last_write_more : (x : Exec) (sure : Bool) (k : Key) (ws : List Write) (i : ℕ) (d : Write) → i < length ws → last_write x sure 1 k (take (i + 1) ws) ≡ first_of_two (write_at x sure (i + 1) k (get_or ws i d)) (last_write x sure 1 k (take i ws))
+last_write_more x sure k ws i d h =
+    let n : length (take i ws) + 1 ≡ i + 1 = omega (arith, length-take i ws) in
+    ap (last_write x sure 1 k) (take_more ws i d h)
+    ∙ (last_write_push x sure 1 k (take i ws) (get_or ws i d)
+    ∙ ap (λ j. first_of_two (write_at x sure j k (get_or ws i d)) (last_write x sure 1 k (take i ws))) n)
+
+pub first_held_none : (fs : List First2) (k : Key) → find (λ f. same_key k f.key) fs ≡ None → first_held fs k ≡ first_value (pos 0)
+first_held_none [] k e = refl
+first_held_none (f ∷ fs) k e = go (same_key k f.key) e (first_held_none fs k)
+  where
+    go : (b : Bool) → cond b (Some f) (find (λ g. same_key k g.key) fs) ≡ None → (find (λ g. same_key k g.key) fs ≡ None → first_held fs k ≡ first_value (pos 0)) → cond b (first_value f.value) (first_held fs k) ≡ first_value (pos 0)
+    go true e more = absurd cc
+    go false e more = more e
+
+pub first_held_some : (fs : List First2) (k : Key) (g : First2) → find (λ f. same_key k f.key) fs ≡ Some g → first_held fs k ≡ first_value g.value
+first_held_some [] k g e = absurd cc
+first_held_some (f ∷ fs) k g e = go (same_key k f.key) e (first_held_some fs k g)
+  where
+    go : (b : Bool) → cond b (Some f) (find (λ g. same_key k g.key) fs) ≡ Some g → (find (λ g. same_key k g.key) fs ≡ Some g → first_held fs k ≡ first_value g.value) → cond b (first_value f.value) (first_held fs k) ≡ first_value g.value
+    go true e more = cc
+    go false e more = more e
