@@ -9,6 +9,8 @@
 mod cells;
 mod conflicts;
 mod state;
+#[cfg(test)]
+mod tests;
 mod votes;
 
 pub use state::Ballots;

@@ -7,6 +7,8 @@
 
 mod notes;
 mod readers;
+#[cfg(test)]
+mod tests;
 
 pub use notes::{Seen, send_due};
 pub use readers::Readers;
