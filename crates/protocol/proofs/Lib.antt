@@ -6,3 +6,4 @@ pub mod Members
 pub mod Quorums
 pub mod Basic
 pub mod Computed
+pub mod Distinct

@@ -22,7 +22,8 @@ use Rattle.safety.proofs.One.{one_view}
 use Rattle.protocol.specs.Decided.{WasSent}
 use Rattle.safety.proofs.Locks.{accepted_sent}
 use Rattle.safety.specs.Locks.{VotedCommit, HasAccepted}
-use Rattle.safety.proofs.Evidence.{Evidence, distinct_more}
+use Rattle.protocol.proofs.Distinct.{distinct_more}
+use Rattle.safety.proofs.Evidence.{Evidence}
 
 -- the counted votes that pass are those of distinct replicas
 passed : (Vote → Bool) → List CountedVote → List ℕ

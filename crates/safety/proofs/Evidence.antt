@@ -1,5 +1,5 @@
-use Rattle.std.proofs.Common.{◌≡◌, ℕ, ◌<◌, ◌≤◌, ◌⊎◌, ◌≢◌, inl, inr, refl, ap, sym, ◌∙◌, subst, true, false, Bool, List, [], ◌∷◌, ◌++◌, Option, Some, None, arith}
-use Rattle.std.specs.Prelude.{flat_map, zero, suc, map, ◌||◌, ◌==◌}
+use Rattle.std.proofs.Common.{◌≡◌, ℕ, ◌<◌, ◌≤◌, ◌≢◌, inl, inr, refl, sym, ◌∙◌, subst, false, List, [], ◌∷◌, ◌++◌, Option, Some, None, arith}
+use Rattle.std.specs.Prelude.{flat_map, zero, suc, map, ◌==◌}
 use Rattle.std.specs.List.{list_any}
 use Rattle.std.proofs.lemmas.Bool.Decides.{eqb_tells}
 use Rattle.morty_base.specs.declared.names.Exec.{Exec}
@@ -18,7 +18,9 @@ use Rattle.protocol.specs.Client.{ClientState, Phase, CountedVote, Decision}
 use Rattle.protocol.specs.Deciding.{content_for}
 use Rattle.protocol.specs.Client.Phase.{Between, Running, Prepared}
 use Rattle.protocol.specs.World.{Plan, World, to_all, rules}
-use Rattle.protocol.proofs.Members.{IsIn-left, IsIn-right, IsIn-cases, at_cases}
+use Rattle.protocol.proofs.Members.{IsIn-left, IsIn-right, IsIn-cases, at_cases, map_in}
+use Rattle.protocol.proofs.Distinct.{distinct_more, distinct_map_more, absent}
+use Rattle.std.proofs.lemmas.List.{map-id}
 use Rattle.protocol.specs.Quorums.{IsDistinct}
 use Rattle.protocol_steps.proofs.Acts.{Act, IsRunning, SameStage}
 use Rattle.protocol_steps.proofs.Acts.Act.{Quiet, Advances, Prepares, Counts, Proposes, Accepts, Decides, Gives_up, Learns}
@@ -29,34 +31,8 @@ use Rattle.protocol_steps.proofs.Facts.{RFact, AcceptedFact, facts_reach}
 use Rattle.protocol.specs.Decided.{WasSent}
 use Rattle.safety.proofs.Locks.{sent_grows, replica_grows, voted_grows}
 
--- one more element that is not among the others, at the end
-pub distinct_more : (xs : List ℕ) (x : ℕ) → IsDistinct xs → (IsIn x xs → ⊥) → IsDistinct (xs ++ x ∷ [])
-distinct_more [] x d n = (λ i. i, tt)
-distinct_more (y ∷ xs) x d n = (λ i. elim (IsIn-cases y xs (x ∷ []) i) [ inl j ↦ d.0 j | inr j ↦ elim j [ inl e ↦ n (inl (sym e)) | inr z ↦ z ] ], distinct_more xs x d.1 (λ i. n (inr i)))
-
-pub absent : {A : Type 0} (f : A → ℕ) (j : ℕ) (xs : List A) → list_any (λ a. f a == j) xs ≡ false → IsIn j (map f xs) → ⊥
-absent f j [] e i = i
-absent f j (x ∷ xs) e i = go (f x == j) (eqb_tells (f x) j) e i (λ g h. absent f j xs g h)
-  where
-    go : (t : Bool) → ((t ≡ true) × (f x ≡ j)) ⊎ ((t ≡ false) × (f x ≢ j)) → (t || list_any (λ a. f a == j) xs) ≡ false → (j ≡ f x) ⊎ IsIn j (map f xs) → (list_any (λ a. f a == j) xs ≡ false → IsIn j (map f xs) → ⊥) → ⊥
-    go true p e i ih = cc
-    go false (inl p) e i ih = cc
-    go false (inr p) e (inl q) ih = p.1 (sym q)
-    go false (inr p) e (inr i) ih = ih e i
-
-map_more : {A B : Type 0} (f : A → B) (xs : List A) (x : A) → map f (xs ++ x ∷ []) ≡ map f xs ++ f x ∷ []
-map_more f [] x = refl
-map_more f (y ∷ xs) x = ap (λ ys. f y ∷ ys) (map_more f xs x)
-
-map_id : (xs : List ℕ) → map (λ j. j) xs ≡ xs
-map_id [] = refl
-map_id (x ∷ xs) = ap (λ ys. x ∷ ys) (map_id xs)
-
-pub distinct_map_more : {A : Type 0} (f : A → ℕ) (xs : List A) (x : A) → IsDistinct (map f xs) → list_any (λ a. f a == f x) xs ≡ false → IsDistinct (map f (xs ++ x ∷ []))
-distinct_map_more f xs x d e = rw map_more (distinct_more (map f xs) (f x) d (absent f (f x) xs e))
-
 pub absent_id : (j : ℕ) (xs : List ℕ) → list_any (λ i. i == j) xs ≡ false → IsIn j xs → ⊥
-absent_id j xs e i = absent (λ z. z) j xs e (rw map_id i)
+absent_id j xs e i = absent (λ z. z) j xs e (rw map-id i)
 
 -- what a prepared client has evidence of
 pub record Evidence (n : ℕ) (w : World) (x : Exec) (k : Content) (vs : List CountedVote) (o : Option Choice) (acs : List ℕ) : Type 0 where
@@ -160,14 +136,9 @@ upto_in (suc n) r a b = elim (eqb_tells r (suc n)) [
   | inr e ↦ (let f : r ≢ suc n = e.1 in IsIn-left r (upto n) (suc n ∷ []) (upto_in n r a (omega arith)))
 ]
 
-pub IsIn-map_in : {A B : Type 0} (f : A → B) (a : A) (xs : List A) → IsIn a xs → IsIn (f a) (map f xs)
-IsIn-map_in f a [] i = i
-IsIn-map_in f a (x ∷ xs) (inl e) = inl (ap f e)
-IsIn-map_in f a (x ∷ xs) (inr i) = inr (IsIn-map_in f a xs i)
-
 to_all_one : (n : ℕ) (from : NodeId) (bs : List Body) (b : Body) → 0 < n → IsIn b bs → (e : Envelope) × IsIn e (flat_map (to_all n from) bs) × (e.body ≡ b)
 to_all_one n from [] b l i = absurd i
-to_all_one n from (c ∷ bs) b l (inl e) = (record { from = from; to = Replica 1; body = c }, IsIn-left _ (to_all n from c) _ (IsIn-map_in (λ r. record { from = from; to = Replica r; body = c }) 1 (upto n) (upto_in n 1 (omega arith) (omega (arith, l)))), sym e)
+to_all_one n from (c ∷ bs) b l (inl e) = (record { from = from; to = Replica 1; body = c }, IsIn-left _ (to_all n from c) _ (map_in (λ r. record { from = from; to = Replica r; body = c }) (upto n) 1 (upto_in n 1 (omega arith) (omega (arith, l)))), sym e)
 to_all_one n from (c ∷ bs) b l (inr i) = let k = to_all_one n from bs b l i in (k.0, IsIn-right k.0 (to_all n from c) _ k.1, k.2)
 
 -- what an act sends is in the mail

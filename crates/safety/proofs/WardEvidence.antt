@@ -20,7 +20,7 @@ use Rattle.protocol.specs.Warden.Parcel.{To_all}
 use Rattle.protocol.specs.World.{Plan, World, parcel, warden_rules}
 use Rattle.std.proofs.lemmas.List.{length-append}
 use Rattle.protocol.proofs.Orders.{exec_is}
-use Rattle.protocol.proofs.Members.{IsIn-left, IsIn-right, IsIn-cases, at_cases}
+use Rattle.protocol.proofs.Members.{IsIn-left, IsIn-right, IsIn-cases, at_cases, map_in}
 use Rattle.protocol_steps.proofs.Wards.{WAct, told_round}
 use Rattle.protocol_steps.proofs.Wards.WAct.{Stills, Asks, Tolds, Accepts, Begins_cut, Counts_fenced, Ends_cut}
 use Rattle.protocol_steps.proofs.Reach.{Step, Reach, WardenActs, HeardAt}
@@ -29,7 +29,8 @@ use Rattle.protocol_steps.proofs.Reach.From.{Begins, Next}
 use Rattle.protocol_steps.proofs.Mail.{took_reach}
 use Rattle.protocol_steps.proofs.Facts.{RFact, ToldFact, AcceptedFact, facts_reach, fact_cons}
 use Rattle.protocol_steps.proofs.WardFacts.{round_found, put_in}
-use Rattle.safety.proofs.Evidence.{distinct_more, distinct_map_more, absent_id, accepted_fact_grows, upto_in, IsIn-map_in}
+use Rattle.protocol.proofs.Distinct.{distinct_more, distinct_map_more}
+use Rattle.safety.proofs.Evidence.{absent_id, accepted_fact_grows, upto_in}
 use Rattle.protocol.specs.Decided.{WasSent}
 use Rattle.safety.proofs.Locks.{sent_grows, replica_grows}
 
@@ -84,7 +85,7 @@ ward_sent p w w' s pos b i = let k = one s.sent i in record { envelope = k.0; th
   where
     one : (ps : List Parcel) → IsIn (To_all b) ps → (e : Envelope) × IsIn e (flat_map (parcel p.replicas (Warden s.k)) ps) × (e.body ≡ b)
     one [] i = absurd i
-    one (c ∷ ps) (inl e) = (record { from = Warden s.k; to = Replica 1; body = b }, IsIn-left _ (parcel p.replicas (Warden s.k) c) _ (rw (← e) (IsIn-map_in (λ r. record { from = Warden s.k; to = Replica r; body = b }) 1 (upto p.replicas) (upto_in p.replicas 1 (omega arith) (omega (arith, pos))))), refl)
+    one (c ∷ ps) (inl e) = (record { from = Warden s.k; to = Replica 1; body = b }, IsIn-left _ (parcel p.replicas (Warden s.k) c) _ (rw (← e) (map_in (λ r. record { from = Warden s.k; to = Replica r; body = b }) (upto p.replicas) 1 (upto_in p.replicas 1 (omega arith) (omega (arith, pos))))), refl)
     one (c ∷ ps) (inr i) = let k = one ps i in (k.0, IsIn-right k.0 (parcel p.replicas (Warden s.k) c) _ k.1, k.2)
 
 none_some : {A : Type 0} (a : A) → None ≡ Some a → ⊥
