@@ -7,8 +7,8 @@ ghost use Rattle.morty_base.specs.Names.{same_exec};
 ghost use Rattle.protocol.specs.Lists.{first_of_two, when};
 ghost use Rattle.ballots.specs.Cells.{promise_on, accept_of, content_on, new_content};
 
-use held_writes::{is_same_exec, put_first};
-use morty_base::{Exec, List, NoMemory};
+use held_writes::put_first;
+use morty_base::{Exec, List, NoMemory, is_same_exec};
 use msg::{Accept, Choice, Content, Kept};
 use std::alloc::Global;
 

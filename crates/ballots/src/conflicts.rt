@@ -7,8 +7,7 @@ ghost use Rattle.std.specs.List.{list_any};
 ghost use Rattle.morty_base.specs.Names.{before};
 ghost use Rattle.protocol.specs.Votes.{writes_key as writes_key_of, misses as misses_of, conflicts as conflicts_of, conflicts_with_base as conflicts_with_base_of};
 
-use held_writes::{is_before, is_same_key};
-use morty_base::{Key, Version};
+use morty_base::{Key, Version, is_before, is_same_key};
 use msg::{BaseEntry, Content, Kept, Read, Write};
 
 fn writes_key(key: Key, writes: &[Write]) -> bool

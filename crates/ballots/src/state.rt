@@ -17,8 +17,8 @@ use crate::cells::{
 };
 use crate::conflicts::{conflicts_with_base, conflicts_with_commit};
 use crate::votes::{Cast, any_clashes, cast_content, cast_vote, is_undecided, is_unvoted};
-use held_writes::{HeldWrites, is_before, put_first};
-use morty_base::{Exec, List, NoMemory, Version};
+use held_writes::{HeldWrites, put_first};
+use morty_base::{Exec, List, NoMemory, Version, is_before};
 use msg::{Accept, Body, Choice, Content, Envelope, Kept, Vote};
 use std::alloc::Global;
 

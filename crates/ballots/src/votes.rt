@@ -10,8 +10,8 @@ ghost use Rattle.protocol.specs.Votes.{cast_on, clashes_with_vote, is_commit_vot
 ghost use Rattle.ballots.specs.Cells.{cast_of};
 
 use crate::conflicts::conflicts;
-use held_writes::{HeldWrites, is_before, is_same_exec};
-use morty_base::{Exec, NoMemory};
+use held_writes::HeldWrites;
+use morty_base::{Exec, NoMemory, is_before, is_same_exec};
 use msg::{Content, Vote};
 use std::alloc::Global;
 

@@ -12,8 +12,8 @@ ghost use Rattle.protocol.specs.Said.{same_held as same_held_of, note_for, due};
 ghost use Rattle.protocol.specs.Held.{latest};
 ghost use Rattle.due_notes.specs.Standing.{sights};
 
-use held_writes::{HeldWrites, is_before, is_same_wid, push_some};
-use morty_base::{Key, List, NoMemory, NodeId, Version, Wid};
+use held_writes::{HeldWrites, push_some};
+use morty_base::{Key, List, NoMemory, NodeId, Version, Wid, is_before, is_same_wid};
 use msg::{Body, Envelope};
 use protocol::{First2, Held};
 use std::alloc::Global;

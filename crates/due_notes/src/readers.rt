@@ -9,8 +9,10 @@ ghost use Rattle.protocol.specs.Said.{Reader as ReaderOf, put_reader as put_read
 ghost use Rattle.due_notes.specs.Rest.{reader_of, rest_of, seen_of};
 
 use crate::notes::Seen;
-use held_writes::{HeldWrites, is_before, is_key_before, is_same_key, is_same_version};
-use morty_base::{Key, List, NoMemory, Version};
+use held_writes::HeldWrites;
+use morty_base::{
+    Key, List, NoMemory, Version, is_before, is_key_before, is_same_key, is_same_version,
+};
 use msg::{Body, Envelope};
 use protocol::First2;
 use std::alloc::Global;

@@ -9,8 +9,9 @@ ghost use Rattle.protocol.specs.Lists.{first_of_two, when};
 ghost use Rattle.held_writes.specs.Commits.{entry_held_of, commit_held_of};
 
 use crate::lists::push_some;
-use crate::names::{is_before, is_same_key, is_same_version, is_wid_before};
-use morty_base::{Exec, Key, List, NoMemory, Version, Wid};
+use morty_base::{
+    Exec, Key, List, NoMemory, Version, Wid, is_before, is_same_key, is_same_version, is_wid_before,
+};
 use msg::{BaseEntry, Kept, Write};
 use protocol::{First2, Held};
 use std::alloc::Global;

@@ -9,12 +9,7 @@
 
 mod held;
 mod lists;
-mod names;
 mod writes;
 
 pub use lists::{push_some, put_first};
-pub use names::{
-    is_before, is_exec_before, is_key_before, is_same_exec, is_same_key, is_same_version,
-    is_same_wid, is_wid_before,
-};
 pub use writes::HeldWrites;

@@ -11,8 +11,7 @@ ghost use Rattle.protocol.specs.Replica.{Handled, decided, new_commit};
 ghost use Rattle.protocol.specs.Held.{new_abandon, put_version, put_after};
 ghost use Rattle.held_writes.specs.Lists.{decision_on, put_of, put_on, Replaces};
 
-use crate::names::{is_same_exec, is_same_version};
-use morty_base::{Exec, List, NoMemory, Version};
+use morty_base::{Exec, List, NoMemory, Version, is_same_exec, is_same_version};
 use msg::{Choice, Content, Kept, Write};
 use std::alloc::Global;
 use std::mem;

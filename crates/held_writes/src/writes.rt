@@ -15,8 +15,7 @@ use crate::lists::{
     Decision, Put, add_abandon, add_commit, add_put, add_version, find_decision, find_put,
     is_undecided, push_some,
 };
-use crate::names::{is_before, is_same_version};
-use morty_base::{Exec, Key, List, NoMemory, Version};
+use morty_base::{Exec, Key, List, NoMemory, Version, is_before, is_same_version};
 use msg::{BaseEntry, Body, Choice, Content, Envelope, Kept, Write};
 use protocol::{First2, Held};
 use std::alloc::Global;

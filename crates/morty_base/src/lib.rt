@@ -1,11 +1,16 @@
 //! The names that every layer of the store uses, with their orders, and a list that contracts see as its items.
 #![tactic(auto)]
 
+mod comparisons;
 mod laws;
 mod list;
 mod names;
 mod steps;
 
+pub use comparisons::{
+    is_before, is_exec_before, is_key_before, is_node_before, is_same_exec, is_same_key,
+    is_same_node, is_same_version, is_same_wid, is_wid_before,
+};
 pub use laws::{exec_order, key_order, node_order, version_order, wid_order};
 pub use list::{List, NoMemory};
 pub use names::{Ended, Ending, Exec, Key, NodeId, Version, Wid};

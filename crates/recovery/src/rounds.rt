@@ -6,7 +6,7 @@ ghost use Rattle.protocol.specs.Recovery.{with_told, with_proposal, used};
 ghost use Rattle.recovery.specs.Turns.{is_of, counts_told, counts_accept, accepted_by};
 
 use crate::proposal::{Proposal, Told};
-use morty_base::{Exec, List, NoMemory};
+use morty_base::{Exec, List, NoMemory, is_same_exec};
 use msg::{Choice, Content};
 use std::alloc::Global;
 use std::marker::Model;
@@ -39,13 +39,6 @@ impl Model for Round {
     ghost view = { λ a. record { exec = a.exec; view = a.view; tolds = a.tolds; proposal = proposal_in a.phase; accepts = accepts_in a.phase } };
 }
 
-#[tactic(auto, unfolding(morty_base::specs::Names::same_exec))]
-fn is_same(x: Exec, y: Exec) -> bool
-    ensures { result ≡ same_exec x y }
-{
-    x == y
-}
-
 impl Round {
     pub fn new(alloc: Global, exec: Exec, view: u32) -> Round
         ensures { result ≡ record { exec = exec; view = view; tolds = []; proposal = None; accepts = [] } }
@@ -61,13 +54,13 @@ impl Round {
     pub fn is_about(&self, exec: Exec) -> bool
         ensures { result ≡ same_exec exec self.now.exec }
     {
-        is_same(exec, self.exec)
+        is_same_exec(exec, self.exec)
     }
 
     fn is_of(&self, exec: Exec, view: u32) -> bool
         ensures { result ≡ is_of exec view self.now }
     {
-        is_same(exec, self.exec) && self.view == view
+        is_same_exec(exec, self.exec) && self.view == view
     }
 
     pub fn proposal(&self) -> Option<&Proposal>
@@ -208,7 +201,7 @@ impl Decision {
     fn is_about(&self, exec: Exec) -> bool
         ensures { result ≡ same_exec exec self.now.exec }
     {
-        is_same(exec, self.exec)
+        is_same_exec(exec, self.exec)
     }
 }
 
