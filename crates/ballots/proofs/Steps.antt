@@ -3,23 +3,16 @@ use Rattle.std.proofs.Common.{◌≡◌, ℕ, ◌+◌, ◌<◌, max, Bool, true,
 use Rattle.std.specs.Prelude.{find, option_map, unwrap_or}
 use Rattle.std.specs.List.{list_any}
 use Rattle.std.proofs.lemmas.List.{take_more}
-use Rattle.protocol.specs.Lists.{first_of_two, when, one_when}
-use Rattle.morty_base.specs.declared.names.Exec.{Exec}
-use Rattle.morty_base.specs.declared.names.NodeId.{NodeId}
-use Rattle.morty_base.specs.declared.names.Version.{Version}
-use Rattle.morty_base.specs.Names.{same_exec}
+use Rattle.std.specs.Option.{option_or}
+use Rattle.std.specs.Bool.{then_some}
+use Rattle.protocol.specs.Lists.{one_when}
+use Rattle.protocol.specs.Words.{Exec, NodeId, Version, same_exec, Choice, Content, Vote, Kept, BaseEntry, Body, Prepare, Finalize, Ask, Fence, Drops}
 use Rattle.morty_base.proofs.Orders.{same_exec_tells}
-use Rattle.msg.specs.declared.Choice.{Choice}
-use Rattle.msg.specs.declared.Content.{Content}
-use Rattle.msg.specs.declared.Vote.{Vote}
-use Rattle.msg.specs.declared.Kept.{Kept}
-use Rattle.msg.specs.declared.BaseEntry.{BaseEntry}
-use Rattle.msg.specs.declared.Body.{Body}
-use Rattle.msg.specs.declared.Body.TheVariants.{Prepare, Finalize, Ask, Fence, Drop as Drops}
-use Rattle.held_writes.proofs.Growth.{find_append, first_of_two_none}
+use Rattle.held_writes.proofs.Growth.{find_append, option_or_none}
 use Rattle.held_writes.proofs.Knowing.{later_none}
-use Rattle.protocol.specs.Replica.{Handled, fence, promised, accepted_content, accepted_content_for, Acceptance, accept_on, pair_of}
-use Rattle.protocol.specs.Votes.{Cast as CastOf, cast_on}
+use Rattle.protocol.specs.Replica.Taken.{Handled, fence}
+use Rattle.protocol.specs.Replica.Acceptor.{promised, accepted_content, accepted_content_for, Acceptance, accept_on, pair_of}
+use Rattle.protocol.specs.Replica.Votes.{Cast as CastOf, cast_on}
 use Rattle.ballots.specs.Cells.{promise_on, content_on, new_content, cast_of}
 use Rattle.ballots.specs.Standing.{StandsFor}
 use Rattle.ballots.specs.declared.cells.Promise.{Promise}
@@ -67,11 +60,11 @@ promise_on_first x v m ps e y = go (same_exec y x) (same_exec_tells y x)
     go false t = max_none (promise_on y ps)
 
 -- an acceptance that a Finalize may bring stands first
-pub accept_on_first : (y x : Exec) (b : Bool) (a : Acceptance) (acc : List Acceptance) → a.exec ≡ x → option_map pair_of (accept_on y (one_when b a ++ acc)) ≡ first_of_two (when (b && same_exec y x) (pair_of a)) (option_map pair_of (accept_on y acc))
+pub accept_on_first : (y x : Exec) (b : Bool) (a : Acceptance) (acc : List Acceptance) → a.exec ≡ x → option_map pair_of (accept_on y (one_when b a ++ acc)) ≡ option_or (then_some (b && same_exec y x) (pair_of a)) (option_map pair_of (accept_on y acc))
 accept_on_first y x false a acc e = refl
-accept_on_first y x true a acc e = subst (λ z. option_map pair_of (accept_on y (a ∷ acc)) ≡ first_of_two (when (same_exec y z) (pair_of a)) (option_map pair_of (accept_on y acc))) e (go (same_exec y a.exec))
+accept_on_first y x true a acc e = subst (λ z. option_map pair_of (accept_on y (a ∷ acc)) ≡ option_or (then_some (same_exec y z) (pair_of a)) (option_map pair_of (accept_on y acc))) e (go (same_exec y a.exec))
   where
-    go : (t : Bool) → option_map pair_of (cond t (Some a) (accept_on y acc)) ≡ first_of_two (when t (pair_of a)) (option_map pair_of (accept_on y acc))
+    go : (t : Bool) → option_map pair_of (cond t (Some a) (accept_on y acc)) ≡ option_or (then_some t (pair_of a)) (option_map pair_of (accept_on y acc))
     go true = refl
     go false = refl
 
@@ -80,28 +73,28 @@ pub new_content_is : (h : Handled) (y x : Exec) (v : ℕ) (d : Choice) (c : Opti
 new_content_is h y x v d None = refl
 new_content_is h y x v d (Some c) = go (same_exec y x) (same_exec_tells y x)
   where
-    go : (b : Bool) → ((b ≡ true) × (y ≡ x)) ⊎ ((b ≡ false) × (y ≢ x)) → when (b && nat_le (promised h x) v) c ≡ when (b && nat_le (promised h y) v) c
-    go true (inl q) = subst (λ z. when (nat_le (promised h x) v) c ≡ when (nat_le (promised h z) v) c) (sym q.1) refl
+    go : (b : Bool) → ((b ≡ true) × (y ≡ x)) ⊎ ((b ≡ false) × (y ≢ x)) → then_some (b && nat_le (promised h x) v) c ≡ then_some (b && nat_le (promised h y) v) c
+    go true (inl q) = subst (λ z. then_some (nat_le (promised h x) v) c ≡ then_some (nat_le (promised h z) v) c) (sym q.1) refl
     go true (inr q) = absurd (cc (q.0))
     go false t = refl
 
-pub content_on_push : (y : Exec) (ks : List Kept) (k : Kept) → content_on y (ks ++ k ∷ []) ≡ first_of_two (content_on y ks) (when (same_exec y k.exec) k.content)
+pub content_on_push : (y : Exec) (ks : List Kept) (k : Kept) → content_on y (ks ++ k ∷ []) ≡ option_or (content_on y ks) (then_some (same_exec y k.exec) k.content)
 content_on_push y ks k =
     ap (option_map (λ e. e.content)) (find_append (λ e. same_exec y e.exec) ks (k ∷ []))
     ∙ go (find (λ e. same_exec y e.exec) ks) (same_exec y k.exec)
   where
-    go : (o : Option Kept) (b : Bool) → option_map (λ e. e.content) (first_of_two o (cond b (Some k) None)) ≡ first_of_two (option_map (λ e. e.content) o) (when b k.content)
+    go : (o : Option Kept) (b : Bool) → option_map (λ e. e.content) (option_or o (cond b (Some k) None)) ≡ option_or (option_map (λ e. e.content) o) (then_some b k.content)
     go None true = refl
     go None false = refl
     go (Some e) true = refl
     go (Some e) false = refl
 
 -- the vote that may be cast is the new cast
-pub one_when_none : {X : Type 0} (b : Bool) (v : Vote) (r : X) → None ≡ when b v → [] ≡ one_when b r
+pub one_when_none : {X : Type 0} (b : Bool) (v : Vote) (r : X) → None ≡ then_some b v → [] ≡ one_when b r
 one_when_none true v r e = absurd cc
 one_when_none false v r e = refl
 
-pub one_when_some : (b : Bool) (v u : Vote) (x : Exec) (c : Content) → Some u ≡ when b v → (record { exec = x; content = c; vote = u } ∷ []) ≡ one_when {A = CastOf} b (record { exec = x; content = c; vote = v })
+pub one_when_some : (b : Bool) (v u : Vote) (x : Exec) (c : Content) → Some u ≡ then_some b v → (record { exec = x; content = c; vote = u } ∷ []) ≡ one_when {A = CastOf} b (record { exec = x; content = c; vote = v })
 one_when_some true v u x c e = let f : u ≡ v = cc in ap (λ w. record { exec = x; content = c; vote = w } ∷ []) f
 one_when_some false v u x c e = absurd cc
 
@@ -116,7 +109,7 @@ stands_other h from to _ w p f a e d s = record {
   fence_is = s.fence_is ∙ sym (later_none (fence h));
   promised_is = λ y. s.promised_is y ∙ max_none (promised h y);
   accepted_is = s.accepted_is;
-  content_is = λ y. s.content_is y ∙ sym (first_of_two_none (accepted_content h y));
+  content_is = λ y. s.content_is y ∙ sym (option_or_none (accepted_content h y));
   casts_is = s.casts_is;
 }
 
@@ -124,7 +117,7 @@ and_true : (t : Bool) → t ≡ (t && true)
 and_true true = refl
 and_true false = refl
 
-pub new_content_some : (y x : Exec) (b : Bool) (o : Option Content) (c : Content) → o ≡ Some c → b ≡ true → when (same_exec y x) c ≡ new_content y x b o
+pub new_content_some : (y x : Exec) (b : Bool) (o : Option Content) (c : Content) → o ≡ Some c → b ≡ true → then_some (same_exec y x) c ≡ new_content y x b o
 new_content_some y x b o c e t =
-    ap (λ u. when u c) (and_true (same_exec y x))
-    ∙ (ap (λ u. when (same_exec y x && u) c) (sym t) ∙ ap (new_content y x b) (sym e))
+    ap (λ u. then_some u c) (and_true (same_exec y x))
+    ∙ (ap (λ u. then_some (same_exec y x && u) c) (sym t) ∙ ap (new_content y x b) (sym e))

@@ -1,12 +1,8 @@
 -- Look-ups in the lists of a replica: the entry of an execution that stands first.
 use Rattle.std.specs.Prelude.{ℕ, Bool, ◌&&◌, find, Option, Some, None, option_map, unwrap_or, List}
-use Rattle.morty_base.specs.declared.names.Exec.{Exec}
-use Rattle.morty_base.specs.Names.{same_exec}
-use Rattle.msg.specs.declared.Accept.{Accept}
-use Rattle.msg.specs.declared.Content.{Content}
-use Rattle.msg.specs.declared.Kept.{Kept}
-use Rattle.protocol.specs.Lists.{when}
-use Rattle.protocol.specs.Votes.{Cast as CastOf}
+use Rattle.protocol.specs.Words.{Exec, same_exec, Accept, Content, Kept}
+use Rattle.std.specs.Bool.{then_some}
+use Rattle.protocol.specs.Replica.Votes.{Cast as CastOf}
 use Rattle.ballots.specs.declared.cells.Promise.{Promise}
 use Rattle.ballots.specs.declared.cells.AcceptOn.{AcceptOn}
 use Rattle.ballots.specs.declared.votes.Cast.{Cast}
@@ -26,4 +22,4 @@ cast_of y = record { exec = y.exec; content = y.content; vote = y.vote }
 -- what an accepted content of x counts for y
 abbrev pub new_content : Exec → Exec → Bool → Option Content → Option Content
 new_content y x is_accepted None = None
-new_content y x is_accepted (Some c) = when (same_exec y x && is_accepted) c
+new_content y x is_accepted (Some c) = then_some (same_exec y x && is_accepted) c

@@ -1,8 +1,9 @@
 -- When the lists that a replica keeps of its votes stand for the envelopes that it took.
 use Rattle.std.specs.Prelude.{◌≡◌, map}
-use Rattle.morty_base.specs.declared.names.Exec.{Exec}
-use Rattle.protocol.specs.Replica.{Handled, fence, promised, accepted, accepted_content}
-use Rattle.protocol.specs.Votes.{casts}
+use Rattle.protocol.specs.Words.{Exec}
+use Rattle.protocol.specs.Replica.Taken.{Handled, fence}
+use Rattle.protocol.specs.Replica.Acceptor.{promised, accepted, accepted_content}
+use Rattle.protocol.specs.Replica.Votes.{casts}
 use Rattle.ballots.specs.Cells.{promise_on, accept_of, content_on, cast_of}
 use Rattle.ballots.specs.declared.state.Ballots.{Ballots}
 

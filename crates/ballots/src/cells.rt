@@ -4,7 +4,8 @@
 ghost use Rattle.std.specs.Prelude.{◌≡◌, ◌&&◌, max, cond, find, option_map, IfOk, OnOk};
 ghost use Rattle.morty_base.specs.declared.names.Exec.{Exec as ExecValue};
 ghost use Rattle.morty_base.specs.Names.{same_exec};
-ghost use Rattle.protocol.specs.Lists.{first_of_two, when};
+ghost use Rattle.std.specs.Option.{option_or};
+ghost use Rattle.std.specs.Bool.{then_some};
 ghost use Rattle.ballots.specs.Cells.{promise_on, accept_of, content_on, new_content};
 
 use held_writes::put_first;
@@ -73,7 +74,7 @@ pub(crate) fn add_accept(
     view: u32,
     choice: Choice,
 ) -> Result<(), NoMemory>
-    ensures { OnOk result ((y : ExecValue) → accept_of y accepts.new ≡ first_of_two (when (is_accepted && same_exec y exec) (record { view = view; choice = choice })) (accept_of y accepts.old)) }
+    ensures { OnOk result ((y : ExecValue) → accept_of y accepts.new ≡ option_or (then_some (is_accepted && same_exec y exec) (record { view = view; choice = choice })) (accept_of y accepts.old)) }
 {
     if !is_accepted {
         return Ok(());
@@ -91,7 +92,7 @@ pub(crate) fn add_content(
     exec: Exec,
     content: &Option<Content>,
 ) -> Result<(), NoMemory>
-    ensures { OnOk result ((y : ExecValue) → content_on y contents.new ≡ first_of_two (content_on y contents.old) (new_content y exec is_accepted content.now)) }
+    ensures { OnOk result ((y : ExecValue) → content_on y contents.new ≡ option_or (content_on y contents.old) (new_content y exec is_accepted content.now)) }
 {
     match content {
         None => Ok(()),
@@ -131,7 +132,7 @@ fn find_kept(kept: &[Kept], exec: Exec) -> Option<&Kept>
 
 /// The first content, if there is one, else the second.
 pub(crate) fn first_content(first: Option<Content>, second: Option<Content>) -> Option<Content>
-    ensures { result ≡ first_of_two first second }
+    ensures { result ≡ option_or first second }
 {
     match first {
         None => second,

@@ -5,7 +5,7 @@
 ghost use Rattle.std.specs.Prelude.{◌≡◌, ◌&&◌};
 ghost use Rattle.std.specs.List.{list_any};
 ghost use Rattle.morty_base.specs.Names.{before};
-ghost use Rattle.protocol.specs.Votes.{writes_key as writes_key_of, misses as misses_of, conflicts as conflicts_of, conflicts_with_base as conflicts_with_base_of};
+ghost use Rattle.protocol.specs.Replica.Votes.{writes_key as writes_key_of, misses as misses_of, conflicts as conflicts_of, conflicts_with_base as conflicts_with_base_of};
 
 use morty_base::{Key, Version, is_before, is_same_key};
 use msg::{BaseEntry, Content, Kept, Read, Write};
@@ -29,7 +29,7 @@ fn misses(ver: Version, content: &Content, other: Version, writes: &[Write]) -> 
 }
 
 /// One of the two contents missed a write of the other.
-#[tactic(auto, unfolding(protocol::specs::Votes::conflicts))]
+#[tactic(auto, unfolding(protocol::specs::Replica::Votes::conflicts))]
 pub(crate) fn conflicts(ver: Version, content: &Content, other: Version, theirs: &Content) -> bool
     ensures { result ≡ conflicts_of ver content.now other theirs.now }
 {
@@ -37,7 +37,7 @@ pub(crate) fn conflicts(ver: Version, content: &Content, other: Version, theirs:
         || misses(other, theirs, ver, content.writes.as_slice())
 }
 
-#[tactic(auto, unfolding(protocol::specs::Votes::conflicts_with_base))]
+#[tactic(auto, unfolding(protocol::specs::Replica::Votes::conflicts_with_base))]
 fn conflicts_with_entry(ver: Version, content: &Content, entry: BaseEntry) -> bool
     ensures { result ≡ conflicts_with_base_of ver content.now entry }
 {

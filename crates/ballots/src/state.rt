@@ -7,9 +7,10 @@ ghost use Rattle.morty_base.specs.declared.names.NodeId.{NodeId as NodeValue};
 ghost use Rattle.msg.specs.declared.BaseEntry.{BaseEntry as EntryValue};
 ghost use Rattle.msg.specs.declared.Body.TheVariants.{Prepare, Finalize, Ask, Fence, Drop as Drops};
 ghost use Rattle.held_writes.specs.Knowledge.{StandsFor as WritesStandFor};
-ghost use Rattle.protocol.specs.Lists.{when};
-ghost use Rattle.protocol.specs.Replica.{Handled, base, commits, promised, accepted};
-ghost use Rattle.protocol.specs.Votes.{casts, vote, known, clashes_with_commit, conflicts_with_base as conflicts_with_base_of, verdict as verdict_of, may_vote as may_vote_of};
+ghost use Rattle.std.specs.Bool.{then_some};
+ghost use Rattle.protocol.specs.Replica.Taken.{Handled, base};
+ghost use Rattle.protocol.specs.Replica.Acceptor.{commits, promised, accepted};
+ghost use Rattle.protocol.specs.Replica.Votes.{casts, vote, known, clashes_with_commit, conflicts_with_base as conflicts_with_base_of, verdict as verdict_of, may_vote as may_vote_of};
 
 use crate::cells::{
     AcceptOn, Promise, accepted_pair, add_accept, add_content, add_promise, first_content,
@@ -94,7 +95,7 @@ impl Ballots {
     }
 
     /// The vote on an execution: the first case that holds.
-    #[tactic(auto, unfolding(protocol::specs::Votes::verdict))]
+    #[tactic(auto, unfolding(protocol::specs::Replica::Votes::verdict))]
     pub fn verdict(&self, writes: &HeldWrites, exec: Exec, content: &Content) -> Vote
         ensures { (h : Handled) → WritesStandFor h writes.now → StandsFor h self.now → result ≡ verdict_of h (casts h) exec content.now }
     {
@@ -111,7 +112,7 @@ impl Ballots {
     }
 
     /// A vote is cast once, before a view above 0 is promised and before a decision.
-    #[tactic(auto, unfolding(protocol::specs::Votes::may_vote))]
+    #[tactic(auto, unfolding(protocol::specs::Replica::Votes::may_vote))]
     pub fn may_vote(&self, writes: &HeldWrites, exec: Exec) -> bool
         ensures { (h : Handled) → WritesStandFor h writes.now → StandsFor h self.now → result ≡ may_vote_of h (casts h) exec }
     {
@@ -121,7 +122,7 @@ impl Ballots {
 
     /// The vote that a Prepare lets the replica cast.
     pub fn new_vote(&self, writes: &HeldWrites, exec: Exec, content: &Content) -> Option<Vote>
-        ensures { (h : Handled) → WritesStandFor h writes.now → StandsFor h self.now → result ≡ when (may_vote_of h (casts h) exec) (verdict_of h (casts h) exec content.now) }
+        ensures { (h : Handled) → WritesStandFor h writes.now → StandsFor h self.now → result ≡ then_some (may_vote_of h (casts h) exec) (verdict_of h (casts h) exec content.now) }
     {
         if self.may_vote(writes, exec) {
             Some(self.verdict(writes, exec, content))

@@ -5,8 +5,9 @@ ghost use Rattle.std.specs.Prelude.{◌≡◌, ◌||◌, map, is_none, find, opt
 ghost use Rattle.std.specs.List.{list_any};
 ghost use Rattle.morty_base.specs.Names.{same_exec};
 ghost use Rattle.held_writes.specs.Knowledge.{StandsFor as WritesStandFor};
-ghost use Rattle.protocol.specs.Replica.{Handled, decided as decided_of};
-ghost use Rattle.protocol.specs.Votes.{cast_on, clashes_with_vote, is_commit_vote as is_commit_vote_of};
+ghost use Rattle.protocol.specs.Replica.Taken.{Handled};
+ghost use Rattle.protocol.specs.Replica.Acceptor.{decided as decided_of};
+ghost use Rattle.protocol.specs.Replica.Votes.{cast_on, clashes_with_vote, is_commit_vote as is_commit_vote_of};
 ghost use Rattle.ballots.specs.Cells.{cast_of};
 
 use crate::conflicts::conflicts;

@@ -2,9 +2,9 @@ ghost use Rattle.std.specs.Prelude.{◌≤◌};
 
 use morty_base::{List, NoMemory};
 use morty_io::{MemSink, MemSource};
+use msg::Event;
 use script_cli::run_here;
 use std::alloc::Global;
-use world::Event;
 
 /// The script that adds 1 to a cell that holds 4.
 pub const SCRIPT: &[u8] =

@@ -1,7 +1,7 @@
 use crate::fixture::{BAD_COMMAND, NOT_BUILT, Outside, REPORT, SCRIPT, SOUND, call};
 use morty_base::{List, NodeId};
+use msg::{Event, Pick};
 use std::test::Fail;
-use world::{Event, Pick};
 
 #[test]
 fn one_transaction_runs_in_nine_events(rt: HostRuntime) -> Result<(), Fail> {

@@ -2,11 +2,11 @@
 use Rattle.std.proofs.Common.{◌≡◌, ℕ, ◌+◌, ◌<◌, ◌≤◌, Bool, true, false, cond, List, [], ◌∷◌, ◌++◌, length, get_or, take, drop, refl, ap, sym, subst, ◌∙◌, arith, append_assoc, map}
 use Rattle.std.specs.List.{flat_map}
 use Rattle.std.proofs.lemmas.List.{take_more, take_all, drop_more, drop_all, map_push, get_or-map, length-map, flat_map_more}
-use Rattle.protocol.specs.Replica.{Handled}
-use Rattle.protocol.specs.Said.{Reader as ReaderOf, put_reader, note_for, due, readers}
-use Rattle.protocol.specs.Held.{latest}
+use Rattle.protocol.specs.Replica.Taken.{Handled}
+use Rattle.protocol.specs.Replica.Readers.{Reader as ReaderOf, put_reader, note_for, due, readers}
+use Rattle.protocol.specs.Replica.Held.{latest}
 use Rattle.protocol.specs.declared.First2.{First2}
-use Rattle.msg.specs.declared.Envelope.{Envelope}
+use Rattle.protocol.specs.Words.{Envelope}
 use Rattle.due_notes.specs.Rest.{reader_of, rest_of, seen_of}
 use Rattle.due_notes.specs.Standing.{sights}
 use Rattle.due_notes.specs.declared.readers.Reader.{Reader}

@@ -1,8 +1,8 @@
 -- Readers as the protocol has them, and what is left to put down of a list that a reader goes into.
 use Rattle.std.specs.Prelude.{Bool, true, false, List}
-use Rattle.protocol.specs.Replica.{Handled}
-use Rattle.protocol.specs.Said.{Reader as ReaderOf, put_reader}
-use Rattle.protocol.specs.Held.{latest}
+use Rattle.protocol.specs.Replica.Taken.{Handled}
+use Rattle.protocol.specs.Replica.Readers.{Reader as ReaderOf, put_reader}
+use Rattle.protocol.specs.Replica.Held.{latest}
 use Rattle.protocol.specs.declared.First2.{First2}
 use Rattle.due_notes.specs.declared.readers.Reader.{Reader}
 use Rattle.due_notes.specs.declared.notes.Seen.{Seen}

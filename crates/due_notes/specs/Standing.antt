@@ -1,7 +1,7 @@
 -- When the readers stand for the envelopes that a replica took.
 use Rattle.std.specs.Prelude.{◌≡◌, List, map}
-use Rattle.protocol.specs.Replica.{Handled}
-use Rattle.protocol.specs.Said.{readers}
+use Rattle.protocol.specs.Replica.Taken.{Handled}
+use Rattle.protocol.specs.Replica.Readers.{readers}
 use Rattle.protocol.specs.declared.First2.{First2}
 use Rattle.due_notes.specs.Rest.{reader_of, seen_of}
 use Rattle.due_notes.specs.declared.notes.Seen.{Seen}

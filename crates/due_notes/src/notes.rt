@@ -6,10 +6,10 @@ ghost use Rattle.std.specs.List.{list_any};
 ghost use Rattle.std.specs.Option.{option_to_list};
 ghost use Rattle.morty_base.specs.Names.{same_wid};
 ghost use Rattle.held_writes.specs.Knowledge.{StandsFor as WritesStandFor};
-ghost use Rattle.protocol.specs.Lists.{when};
-ghost use Rattle.protocol.specs.Replica.{Handled};
-ghost use Rattle.protocol.specs.Said.{same_held as same_held_of, note_for, due};
-ghost use Rattle.protocol.specs.Held.{latest};
+ghost use Rattle.std.specs.Bool.{then_some};
+ghost use Rattle.protocol.specs.Replica.Taken.{Handled};
+ghost use Rattle.protocol.specs.Replica.Readers.{same_held as same_held_of, note_for, due};
+ghost use Rattle.protocol.specs.Replica.Held.{latest};
 ghost use Rattle.due_notes.specs.Standing.{sights};
 
 use held_writes::{HeldWrites, push_some};
@@ -35,7 +35,7 @@ fn is_same_held(a: Held, b: Held) -> bool
 
 /// The name of a write that is held no longer.
 fn gone(old: Wid, held: &[Held]) -> Option<Wid>
-    ensures { result ≡ when (not (list_any (λ a. same_wid old a.wid) held.now)) old }
+    ensures { result ≡ then_some (not (list_any (λ a. same_wid old a.wid) held.now)) old }
 {
     if is_held(old, held) { None } else { Some(old) }
 }
@@ -47,7 +47,7 @@ fn is_held(wid: Wid, held: &[Held]) -> bool
 }
 
 /// The Note that a reader is due where what it sees has changed.
-#[tactic(auto, unfolding(protocol::specs::Said::note_for))]
+#[tactic(auto, unfolding(protocol::specs::Replica::Readers::note_for))]
 fn note(
     alloc: Global,
     writes: &HeldWrites,

@@ -4,8 +4,8 @@
 ghost use Rattle.std.specs.Prelude.{◌≡◌, ◌∷◌, [], ◌++◌, ◌&&◌, ◌||◌, map, IfOk, OnOk};
 ghost use Rattle.morty_base.specs.Names.{before, same_version, key_before, same_key};
 ghost use Rattle.held_writes.specs.Knowledge.{StandsFor as WritesStandFor};
-ghost use Rattle.protocol.specs.Replica.{Handled};
-ghost use Rattle.protocol.specs.Said.{Reader as ReaderOf, put_reader as put_reader_of};
+ghost use Rattle.protocol.specs.Replica.Taken.{Handled};
+ghost use Rattle.protocol.specs.Replica.Readers.{Reader as ReaderOf, put_reader as put_reader_of};
 ghost use Rattle.due_notes.specs.Rest.{reader_of, rest_of, seen_of};
 
 use crate::notes::Seen;

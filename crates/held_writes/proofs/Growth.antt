@@ -4,15 +4,12 @@ use Rattle.std.specs.Prelude.{find, pos, map}
 use Rattle.std.specs.List.{filter_map, cons_option}
 use Rattle.std.specs.Option.{option_to_list}
 use Rattle.std.proofs.lemmas.List.{take_more}
-use Rattle.protocol.specs.Lists.{first_of_two, when}
-use Rattle.morty_base.specs.declared.names.Version.{Version}
-use Rattle.morty_base.specs.declared.names.Exec.{Exec}
-use Rattle.morty_base.specs.declared.names.Key.{Key}
-use Rattle.morty_base.specs.Names.{before, wid_before, same_key}
-use Rattle.msg.specs.declared.Write.{Write}
+use Rattle.std.specs.Option.{option_or}
+use Rattle.std.specs.Bool.{then_some}
+use Rattle.protocol.specs.Words.{Version, Exec, Key, before, wid_before, same_key, Write}
 use Rattle.protocol.specs.declared.Held.{Held}
 use Rattle.protocol.specs.declared.First2.{First2}
-use Rattle.protocol.specs.Held.{best_below, last_write, first_held, first_value}
+use Rattle.protocol.specs.Replica.Held.{best_below, last_write, first_held, first_value}
 
 cons_option_append : {X : Type 0} (o : Option X) (xs ys : List X) → cons_option o (xs ++ ys) ≡ cons_option o xs ++ ys
 cons_option_append None xs ys = refl
@@ -43,11 +40,11 @@ filter_map_filter {X = X} {Y = Y} p f (x ∷ xs) = go (p x) (filter_map_filter p
     go false e = e
 
 -- so is a map after a filter
-pub filter_map_when : {X Y : Type 0} (p : X → Bool) (f : X → Y) (xs : List X) → filter_map (λ x. when (p x) (f x)) xs ≡ map f (filter p xs)
+pub filter_map_when : {X Y : Type 0} (p : X → Bool) (f : X → Y) (xs : List X) → filter_map (λ x. then_some (p x) (f x)) xs ≡ map f (filter p xs)
 filter_map_when p f [] = refl
 filter_map_when {X = X} {Y = Y} p f (x ∷ xs) = go (p x) (filter_map_when p f xs)
   where
-    go : (b : Bool) → filter_map (λ y. when (p y) (f y)) xs ≡ map f (filter p xs) → cons_option (when b (f x)) (filter_map (λ y. when (p y) (f y)) xs) ≡ map f (cond b (x ∷ filter p xs) (filter p xs))
+    go : (b : Bool) → filter_map (λ y. then_some (p y) (f y)) xs ≡ map f (filter p xs) → cons_option (then_some b (f x)) (filter_map (λ y. then_some (p y) (f y)) xs) ≡ map f (cond b (x ∷ filter p xs) (filter p xs))
     go true e = ap (λ l. f x ∷ l) e
     go false e = e
 
@@ -56,19 +53,19 @@ pub filter_map_same : {X Y : Type 0} (f g : X → Option Y) → ((x : X) → f x
 filter_map_same f g same [] = refl
 filter_map_same f g same (x ∷ xs) = ap (λ o. cons_option o (filter_map f xs)) (same x) ∙ ap (cons_option (g x)) (filter_map_same f g same xs)
 
-pub first_of_two_assoc : {X : Type 0} (a b c : Option X) → first_of_two (first_of_two a b) c ≡ first_of_two a (first_of_two b c)
-first_of_two_assoc None b c = refl
-first_of_two_assoc (Some x) b c = refl
+pub option_or_assoc : {X : Type 0} (a b c : Option X) → option_or (option_or a b) c ≡ option_or a (option_or b c)
+option_or_assoc None b c = refl
+option_or_assoc (Some x) b c = refl
 
-pub first_of_two_none : {X : Type 0} (a : Option X) → first_of_two a None ≡ a
-first_of_two_none None = refl
-first_of_two_none (Some x) = refl
+pub option_or_none : {X : Type 0} (a : Option X) → option_or a None ≡ a
+option_or_none None = refl
+option_or_none (Some x) = refl
 
-pub find_append : {X : Type 0} (p : X → Bool) (xs ys : List X) → find p (xs ++ ys) ≡ first_of_two (find p xs) (find p ys)
+pub find_append : {X : Type 0} (p : X → Bool) (xs ys : List X) → find p (xs ++ ys) ≡ option_or (find p xs) (find p ys)
 find_append p [] ys = refl
 find_append p (x ∷ xs) ys = go (p x) (find_append p xs ys)
   where
-    go : (b : Bool) → find p (xs ++ ys) ≡ first_of_two (find p xs) (find p ys) → cond b (Some x) (find p (xs ++ ys)) ≡ first_of_two (cond b (Some x) (find p xs)) (find p ys)
+    go : (b : Bool) → find p (xs ++ ys) ≡ option_or (find p xs) (find p ys) → cond b (Some x) (find p (xs ++ ys)) ≡ option_or (cond b (Some x) (find p xs)) (find p ys)
     go true e = refl
     go false e = e
 
@@ -88,24 +85,24 @@ best_below_next v b cur r xs i d h e f = f ∙ (ap (λ c. better v c (get_or xs 
 
 -- the last write at the place i of an execution's list
 abbrev pub write_at : Exec → Bool → ℕ → Key → Write → Option Held
-write_at x sure i k w = when (same_key k w.key) (record { wid = record { ver = x.ver; eid = x.eid; seq = i }; value = w.value; sure = sure })
+write_at x sure i k w = then_some (same_key k w.key) (record { wid = record { ver = x.ver; eid = x.eid; seq = i }; value = w.value; sure = sure })
 
-pub last_write_push : (x : Exec) (sure : Bool) (i : ℕ) (k : Key) (ws : List Write) (w : Write) → last_write x sure i k (ws ++ w ∷ []) ≡ first_of_two (write_at x sure (length ws + i) k w) (last_write x sure i k ws)
+pub last_write_push : (x : Exec) (sure : Bool) (i : ℕ) (k : Key) (ws : List Write) (w : Write) → last_write x sure i k (ws ++ w ∷ []) ≡ option_or (write_at x sure (length ws + i) k w) (last_write x sure i k ws)
 last_write_push x sure i k [] w =
     let e : 0 + i ≡ i = omega arith in
-    rw e (sym (first_of_two_none (write_at x sure i k w)))
+    rw e (sym (option_or_none (write_at x sure i k w)))
 last_write_push x sure i k (y ∷ ys) w =
     let e : length ys + suc i ≡ suc (length ys) + i = omega arith in
-    ap (λ o. first_of_two o (write_at x sure i k y)) (last_write_push x sure (suc i) k ys w)
-    ∙ (ap (λ n. first_of_two (first_of_two (write_at x sure n k w) (last_write x sure (suc i) k ys)) (write_at x sure i k y)) e
-    ∙ first_of_two_assoc (write_at x sure (suc (length ys) + i) k w) (last_write x sure (suc i) k ys) (write_at x sure i k y))
+    ap (λ o. option_or o (write_at x sure i k y)) (last_write_push x sure (suc i) k ys w)
+    ∙ (ap (λ n. option_or (option_or (write_at x sure n k w) (last_write x sure (suc i) k ys)) (write_at x sure i k y)) e
+    ∙ option_or_assoc (write_at x sure (suc (length ys) + i) k w) (last_write x sure (suc i) k ys) (write_at x sure i k y))
 
-pub last_write_more : (x : Exec) (sure : Bool) (k : Key) (ws : List Write) (i : ℕ) (d : Write) → i < length ws → last_write x sure 1 k (take (i + 1) ws) ≡ first_of_two (write_at x sure (i + 1) k (get_or ws i d)) (last_write x sure 1 k (take i ws))
+pub last_write_more : (x : Exec) (sure : Bool) (k : Key) (ws : List Write) (i : ℕ) (d : Write) → i < length ws → last_write x sure 1 k (take (i + 1) ws) ≡ option_or (write_at x sure (i + 1) k (get_or ws i d)) (last_write x sure 1 k (take i ws))
 last_write_more x sure k ws i d h =
     let n : length (take i ws) + 1 ≡ i + 1 = omega (arith, length-take i ws) in
     ap (last_write x sure 1 k) (take_more ws i d h)
     ∙ (last_write_push x sure 1 k (take i ws) (get_or ws i d)
-    ∙ ap (λ j. first_of_two (write_at x sure j k (get_or ws i d)) (last_write x sure 1 k (take i ws))) n)
+    ∙ ap (λ j. option_or (write_at x sure j k (get_or ws i d)) (last_write x sure 1 k (take i ws))) n)
 
 pub first_held_none : (fs : List First2) (k : Key) → find (λ f. same_key k f.key) fs ≡ None → first_held fs k ≡ first_value (pos 0)
 first_held_none [] k e = refl

@@ -3,31 +3,22 @@ use Rattle.std.proofs.Common.{◌≡◌, Bool, true, false, cond, List, [], ◌�
 use Rattle.std.specs.Prelude.{find, option_map, filter, map, not}
 use Rattle.std.specs.List.{filter_map, list_any}
 use Rattle.std.proofs.lemmas.Bool.Decides.{nat_tests}
-use Rattle.protocol.specs.Lists.{first_of_two, when}
-use Rattle.morty_base.specs.declared.names.Version.{Version}
-use Rattle.morty_base.specs.declared.names.Exec.{Exec}
-use Rattle.morty_base.specs.declared.names.Key.{Key}
-use Rattle.morty_base.specs.declared.names.NodeId.{NodeId}
-use Rattle.morty_base.specs.Names.{before, same_version, same_exec, same_key, no_version}
+use Rattle.std.specs.Option.{option_or}
+use Rattle.std.specs.Bool.{then_some}
+use Rattle.protocol.specs.Words.{Version, Exec, Key, NodeId, before, same_version, same_exec, same_key, no_version, Choice, Content, Body, Puts, Decide, Drops, Write, Kept, BaseEntry}
 use Rattle.morty_base.proofs.Orders.{same_version_tells}
-use Rattle.msg.specs.declared.Choice.{Choice}
-use Rattle.msg.specs.declared.Content.{Content}
-use Rattle.msg.specs.declared.Body.{Body}
-use Rattle.msg.specs.declared.Body.TheVariants.{Puts, Decide, Drop as Drops}
-use Rattle.msg.specs.declared.Write.{Write}
-use Rattle.msg.specs.declared.Kept.{Kept}
-use Rattle.msg.specs.declared.BaseEntry.{BaseEntry}
 use Rattle.protocol.specs.declared.Held.{Held}
 use Rattle.protocol.specs.declared.First2.{First2}
-use Rattle.protocol.specs.Replica.{Handled, later, dropped, base, decided, commits}
-use Rattle.protocol.specs.Held.{Put as KeptPut, larger, first_held, last_put, last_write, counting_put, kept_put, put_versions, abandons, held}
+use Rattle.protocol.specs.Replica.Taken.{Handled, later, dropped, base}
+use Rattle.protocol.specs.Replica.Acceptor.{decided, commits}
+use Rattle.protocol.specs.Replica.Held.{Put as KeptPut, larger, first_held, last_put, last_write, counting_put, kept_put, put_versions, abandons, held}
 use Rattle.held_writes.specs.Commits.{entry_held_of, commit_held_of}
 use Rattle.held_writes.specs.Lists.{decision_on, put_of, put_on, Replaces}
 use Rattle.held_writes.specs.Knowledge.{StandsFor, open_held}
 use Rattle.held_writes.specs.declared.lists.Decision.{Decision}
 use Rattle.held_writes.specs.declared.lists.Put.{Put}
 use Rattle.held_writes.specs.declared.writes.HeldWrites.{HeldWrites}
-use Rattle.held_writes.proofs.Growth.{find_append, first_of_two_none, filter_map_when, filter_map_filter}
+use Rattle.held_writes.proofs.Growth.{find_append, option_or_none, filter_map_when, filter_map_filter}
 
 before_none : (v : Version) → before v no_version ≡ false
 unfolding before
@@ -59,12 +50,12 @@ put_on_kept x ws ps e v = go (same_version v x.ver) (same_version_tells v x.ver)
     go false t = refl
 
 -- a decision at the end counts where there is none before it
-pub decision_on_push : (y : Exec) (ds : List Decision) (d : Decision) → decision_on y (ds ++ d ∷ []) ≡ first_of_two (decision_on y ds) (when (same_exec y d.exec) d.choice)
+pub decision_on_push : (y : Exec) (ds : List Decision) (d : Decision) → decision_on y (ds ++ d ∷ []) ≡ option_or (decision_on y ds) (then_some (same_exec y d.exec) d.choice)
 decision_on_push y ds d =
     ap (option_map (λ e. e.choice)) (find_append (λ e. same_exec y e.exec) ds (d ∷ []))
     ∙ go (find (λ e. same_exec y e.exec) ds) (same_exec y d.exec)
   where
-    go : (o : Option Decision) (b : Bool) → option_map (λ e. e.choice) (first_of_two o (cond b (Some d) None)) ≡ first_of_two (option_map (λ e. e.choice) o) (when b d.choice)
+    go : (o : Option Decision) (b : Bool) → option_map (λ e. e.choice) (option_or o (cond b (Some d) None)) ≡ option_or (option_map (λ e. e.choice) o) (then_some b d.choice)
     go None true = refl
     go None false = refl
     go (Some e) true = refl
@@ -74,7 +65,7 @@ decision_on_push y ds d =
 pub counting_none : (h : Handled) (v : Version) (k : Key) (q : KeptPut) (o : Option KeptPut) → o ≡ Some q → list_any (λ x. same_version v x.ver && nat_le q.exec.eid x.eid) (abandons h) ≡ true → None ≡ last_put k (counting_put h v o)
 counting_none h v k q o e t =
     subst (λ p. None ≡ last_put k (counting_put h v p)) (sym e)
-    (sym (ap (λ b. last_put k (when (not b) q)) t))
+    (sym (ap (λ b. last_put k (then_some (not b) q)) t))
 
 abbrev sure_entry : BaseEntry → Held
 sure_entry b = record { wid = b.wid; value = b.value; sure = true }
@@ -116,7 +107,7 @@ stands_other h from to (Drops v new) w p d l s = absurd (l v new refl)
 stands_other h from to _ w p d l s = record {
   dropped_is = s.dropped_is ∙ sym (later_none (dropped h));
   base_is = s.base_is;
-  decided_is = λ y. s.decided_is y ∙ sym (first_of_two_none (decided h y));
+  decided_is = λ y. s.decided_is y ∙ sym (option_or_none (decided h y));
   commits_is = s.commits_is;
   abandons_is = s.abandons_is;
   versions_is = s.versions_is;

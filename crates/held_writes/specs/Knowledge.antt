@@ -1,13 +1,11 @@
 -- When the lists that a replica keeps of writes stand for the envelopes that it took.
 use Rattle.std.specs.Prelude.{◌≡◌, cond, not, ◌&&◌, filter, Option, None}
 use Rattle.std.specs.List.{list_any}
-use Rattle.morty_base.specs.declared.names.Version.{Version}
-use Rattle.morty_base.specs.declared.names.Exec.{Exec}
-use Rattle.morty_base.specs.declared.names.Key.{Key}
-use Rattle.morty_base.specs.Names.{before, same_version}
+use Rattle.protocol.specs.Words.{Version, Exec, Key, before, same_version}
 use Rattle.protocol.specs.declared.Held.{Held}
-use Rattle.protocol.specs.Replica.{Handled, dropped, base, decided, commits}
-use Rattle.protocol.specs.Held.{kept_put, put_versions, abandons, last_put, counting_put}
+use Rattle.protocol.specs.Replica.Taken.{Handled, dropped, base}
+use Rattle.protocol.specs.Replica.Acceptor.{decided, commits}
+use Rattle.protocol.specs.Replica.Held.{kept_put, put_versions, abandons, last_put, counting_put}
 use Rattle.held_writes.specs.Lists.{decision_on, put_on}
 use Rattle.held_writes.specs.declared.writes.HeldWrites.{HeldWrites}
 

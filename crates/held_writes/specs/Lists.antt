@@ -1,10 +1,7 @@
 -- Look-ups in the lists of a replica.
 use Rattle.std.specs.Prelude.{◌≡◌, Bool, true, false, find, Option, Some, option_map, List}
-use Rattle.morty_base.specs.declared.names.Version.{Version}
-use Rattle.morty_base.specs.declared.names.Exec.{Exec}
-use Rattle.morty_base.specs.Names.{same_version, same_exec}
-use Rattle.msg.specs.declared.Choice.{Choice}
-use Rattle.protocol.specs.Held.{Put as KeptPut, larger}
+use Rattle.protocol.specs.Words.{Version, Exec, same_version, same_exec, Choice}
+use Rattle.protocol.specs.Replica.Held.{Put as KeptPut, larger}
 use Rattle.held_writes.specs.declared.lists.Decision.{Decision}
 use Rattle.held_writes.specs.declared.lists.Put.{Put}
 

@@ -4,8 +4,9 @@
 ghost use Rattle.std.specs.Prelude.{◌≡◌, ◌+◌, ◌&&◌, cond, filter, find, option_map, IfOk};
 ghost use Rattle.std.specs.List.{list_any, filter_map};
 ghost use Rattle.morty_base.specs.Names.{before, same_version, same_key, wid_before};
-ghost use Rattle.protocol.specs.Held.{first_value as first_value_of, first_held as first_held_of, last_write as last_write_of, best_below as best_below_of};
-ghost use Rattle.protocol.specs.Lists.{first_of_two, when};
+ghost use Rattle.protocol.specs.Replica.Held.{first_value as first_value_of, first_held as first_held_of, last_write as last_write_of, best_below as best_below_of};
+ghost use Rattle.std.specs.Option.{option_or};
+ghost use Rattle.std.specs.Bool.{then_some};
 ghost use Rattle.held_writes.specs.Commits.{entry_held_of, commit_held_of};
 
 use crate::lists::push_some;
@@ -83,7 +84,7 @@ fn next_write(
     write: Write,
     last: Option<Held>,
 ) -> Result<Option<Held>, NoMemory>
-    ensures { IfOk result (λ o. o ≡ first_of_two (when (same_key key write.key) (record { wid = record { ver = exec.ver; eid = exec.eid; seq = at + 1 }; value = write.value; sure = sure })) last) }
+    ensures { IfOk result (λ o. o ≡ option_or (then_some (same_key key write.key) (record { wid = record { ver = exec.ver; eid = exec.eid; seq = at + 1 }; value = write.value; sure = sure })) last) }
 {
     if !is_same_key(key, write.key) {
         return Ok(last);

@@ -7,8 +7,9 @@ ghost use Rattle.std.specs.Option.{option_to_list};
 ghost use Rattle.morty_base.specs.Names.{same_version};
 ghost use Rattle.morty_base.specs.declared.names.Version.{Version as VersionValue};
 ghost use Rattle.msg.specs.declared.Body.TheVariants.{Puts, Decide};
-ghost use Rattle.protocol.specs.Replica.{Handled, decided, new_commit};
-ghost use Rattle.protocol.specs.Held.{new_abandon, put_version, put_after};
+ghost use Rattle.protocol.specs.Replica.Taken.{Handled};
+ghost use Rattle.protocol.specs.Replica.Acceptor.{decided, new_commit};
+ghost use Rattle.protocol.specs.Replica.Held.{new_abandon, put_version, put_after};
 ghost use Rattle.held_writes.specs.Lists.{decision_on, put_of, put_on, Replaces};
 
 use morty_base::{Exec, List, NoMemory, Version, is_same_exec, is_same_version};

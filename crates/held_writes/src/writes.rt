@@ -6,8 +6,9 @@ ghost use Rattle.std.specs.List.{list_any, filter_map};
 ghost use Rattle.morty_base.specs.Names.{before, same_version};
 ghost use Rattle.morty_base.specs.declared.names.NodeId.{NodeId as NodeValue};
 ghost use Rattle.msg.specs.declared.Body.TheVariants.{Puts, Decide, Drop as Drops};
-ghost use Rattle.protocol.specs.Replica.{Handled, dropped, base, commits, decided};
-ghost use Rattle.protocol.specs.Held.{kept_put, put_versions, last_put, counting_put, held as held_of, latest as latest_of};
+ghost use Rattle.protocol.specs.Replica.Taken.{Handled, dropped, base};
+ghost use Rattle.protocol.specs.Replica.Acceptor.{commits, decided};
+ghost use Rattle.protocol.specs.Replica.Held.{kept_put, put_versions, last_put, counting_put, held as held_of, latest as latest_of};
 ghost use Rattle.held_writes.specs.Knowledge.{StandsFor, open_held};
 
 use crate::held::{base_held, best_below, commits_held, first_held, has_commit, last_write};

@@ -1,9 +1,8 @@
-pub mod Logic
-pub mod Orders
-pub mod Grows
-pub mod Steps
-pub mod Members
-pub mod Quorums
-pub mod Basic
-pub mod Computed
-pub mod Distinct
+pub mod TestLemmas
+pub mod NamesLemmas
+pub mod ReplicaGrows
+pub mod EventSteps
+pub mod ListsLemmas
+pub mod QuorumsLemmas
+pub mod BasicLaws
+pub mod DistinctLemmas

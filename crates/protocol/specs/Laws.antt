@@ -1,18 +1,15 @@
 -- The basic laws of the protocol, on which its other laws stand.
 use Rattle.std.specs.Prelude.{◌+◌, length, None, ◌≡◌, ℕ, ◌<◌, ◌≤◌, Bool, true, List, ◌++◌, Some}
-use Rattle.morty_base.specs.declared.names.Exec.{Exec}
-use Rattle.morty_base.specs.declared.names.NodeId.TheVariants.{Replica}
-use Rattle.msg.specs.declared.Vote.{Vote}
-use Rattle.msg.specs.declared.Choice.{Choice}
-use Rattle.msg.specs.declared.Envelope.{Envelope}
-use Rattle.msg.specs.declared.Event.{Event}
+use Rattle.protocol.specs.Words.{Exec, Replica, Vote, Choice, Envelope, Event}
 use Rattle.protocol.specs.Lists.{IsIn}
 use Rattle.protocol.specs.Quorums.{Quorum}
-use Rattle.protocol.specs.Replica.{Handled, Acceptance, acceptances, decided, dropped, fence, promised}
-use Rattle.protocol.specs.Votes.{vote}
-use Rattle.protocol.specs.World.{Plan, World, Move, first_world, enabled, after, replay_from}
-use Rattle.protocol.specs.Decided.{UpTo}
-use Rattle.protocol.specs.Steps.{Happens}
+use Rattle.protocol.specs.Replica.Taken.{Handled, dropped, fence}
+use Rattle.protocol.specs.Replica.Acceptor.{Acceptance, acceptances, decided, promised}
+use Rattle.protocol.specs.Replica.Votes.{vote}
+use Rattle.protocol.specs.World.State.{Plan, World, first_world}
+use Rattle.protocol.specs.World.Events.{Move, enabled, after, replay_from}
+use Rattle.protocol.specs.World.Decided.{UpTo}
+use Rattle.protocol.specs.World.Steps.{Happens}
 
 -- two quorums share a replica
 abbrev pub QuorumsMeet : Type 0
@@ -47,13 +44,13 @@ EventsStep = (p : Plan) (w : World) (e : Event) → Happens p w (after p w e)
 
 -- an event leaves the world as it is where it is not enabled or is refused for the mail; else it does its move, and
 -- what it sends goes to the end of the mail
-pub data Outcome (p : Plan) (w : World) (e : Event) : Type 0 where
-  Not_enabled : enabled p w e ≡ None → after p w e ≡ w → Outcome p w e
-  Refused : (v : Move) → enabled p w e ≡ Some v → 200000 ≤ length w.mail → after p w e ≡ w → Outcome p w e
-  Moved : (v : Move) → enabled p w e ≡ Some v → length w.mail < 200000 → after p w e ≡ record v.world { mail = w.mail ++ v.sent; moved = w.moved + 1 } → Outcome p w e
+pub data EventOutcome (p : Plan) (w : World) (e : Event) : Type 0 where
+  Not_enabled : enabled p w e ≡ None → after p w e ≡ w → EventOutcome p w e
+  Refused : (v : Move) → enabled p w e ≡ Some v → 200000 ≤ length w.mail → after p w e ≡ w → EventOutcome p w e
+  Moved : (v : Move) → enabled p w e ≡ Some v → length w.mail < 200000 → after p w e ≡ record v.world { mail = w.mail ++ v.sent; moved = w.moved + 1 } → EventOutcome p w e
 
 abbrev pub EventsMove : Type 0
-EventsMove = (p : Plan) (w : World) (e : Event) → Outcome p w e
+EventsMove = (p : Plan) (w : World) (e : Event) → EventOutcome p w e
 
 -- a list of events is replayed part by part
 abbrev pub ReplaysJoin : Type 0

@@ -6,16 +6,6 @@ abbrev pub IsIn : {A : Type 0} → A → List A → Type 0
 IsIn x [] = ⊥
 IsIn x (y ∷ ys) = (x ≡ y) ⊎ IsIn x ys
 
--- the first option where it has a value, else the second
-abbrev pub first_of_two : {A : Type 0} → Option A → Option A → Option A
-first_of_two (Some a) o = Some a
-first_of_two None o = o
-
--- the value where the test holds
-abbrev pub when : {A : Type 0} → Bool → A → Option A
-when true a = Some a
-when false a = None
-
 -- one element where the test holds, else none
 abbrev pub one_when : {A : Type 0} → Bool → A → List A
 one_when true a = a ∷ []

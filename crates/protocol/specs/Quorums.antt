@@ -7,14 +7,14 @@ abbrev pub quorum : ℕ → ℕ
 quorum n = suc (n / 2)
 
 -- no element stands twice in the list
-abbrev pub IsDistinct : {A : Type 0} → List A → Type 0
-IsDistinct [] = Unit {0}
-IsDistinct (x ∷ xs) = (IsIn x xs → ⊥) × IsDistinct xs
+abbrev pub HasNoRepeats : {A : Type 0} → List A → Type 0
+HasNoRepeats [] = Unit {0}
+HasNoRepeats (x ∷ xs) = (IsIn x xs → ⊥) × HasNoRepeats xs
 
 -- P holds of the members of a quorum of the replicas 1 to n
 pub record Quorum (n : ℕ) (P : ℕ → Type 0) : Type 0 where
   pub members : List ℕ
-  pub distinct : IsDistinct members
+  pub distinct : HasNoRepeats members
   pub ranged : (r : ℕ) → IsIn r members → (0 < r) × (r ≤ n)
   pub each : (r : ℕ) → IsIn r members → P r
   pub many : quorum n ≤ length members

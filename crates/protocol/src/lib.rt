@@ -3,14 +3,12 @@
 #![tactic(auto)]
 
 mod laws;
-mod runs;
 
 pub use laws::{
     events_move, events_step, mail_grows, quorums_meet, replays_join, replicas_grow, taken_was_sent,
 };
 use morty_base::{Key, Wid};
 use msg::Choice;
-pub use runs::{dropped_reader, hurried_client, three_views, vanished_write, warden_abandons};
 
 /// A write that a replica holds of a key. It is sure unless its execution is still undecided.
 #[derive(Clone, Copy, Debug, PartialEq, Eq)]

@@ -1,17 +1,10 @@
 -- What recovery hears of an envelope, by cases.
 use Rattle.std.proofs.Common.{◌≡◌, ℕ, Bool, true, false, cond, Option, Some, None, refl, ap, ◌∙◌}
 use Rattle.std.specs.Prelude.{is_none}
-use Rattle.morty_base.specs.declared.names.Exec.{Exec}
-use Rattle.morty_base.specs.declared.names.NodeId.{NodeId}
-use Rattle.msg.specs.declared.Vote.{Vote}
-use Rattle.msg.specs.declared.Choice.{Choice}
-use Rattle.msg.specs.declared.Accept.{Accept}
-use Rattle.msg.specs.declared.Content.{Content}
-use Rattle.msg.specs.declared.Body.{Body}
-use Rattle.msg.specs.declared.Body.TheVariants.{Accepted, Told}
-use Rattle.protocol.specs.Tally.{sender}
-use Rattle.protocol.specs.Warden.{WardenRules, WardenState, WardenTurn, decision_on, still}
-use Rattle.protocol.specs.Recovery.{recovery_hears, heard, take_told, take_accept, round_of}
+use Rattle.protocol.specs.Words.{Exec, NodeId, Vote, Choice, Accept, Content, Body, Accepted, Told}
+use Rattle.protocol.specs.Client.Counting.{sender}
+use Rattle.protocol.specs.Warden.State.{WardenRules, WardenState, WardenTurn, decision_on, still}
+use Rattle.protocol.specs.Warden.Recovery.{recovery_hears, heard, take_told, take_accept, round_of}
 
 heard_nobody : (s : WardenState) (f : ℕ → WardenTurn) (b : Bool) (o : Option ℕ) → o ≡ None → cond b (heard s f o) (still s) ≡ still s
 heard_nobody s f false o e = refl

@@ -5,9 +5,9 @@ use Rattle.std.specs.List.{position_or_len, slice_get}
 use Rattle.std.proofs.lemmas.Bool.Decides.{nat_tests}
 use Rattle.std.proofs.lemmas.List.Folds.{find_at}
 use Rattle.std.proofs.lemmas.Option.{slice_get-get_or, slice_get_past}
-use Rattle.morty_base.specs.declared.names.Exec.{Exec}
-use Rattle.protocol.specs.Warden.{Round}
-use Rattle.protocol.specs.Recovery.{round_of, with_round}
+use Rattle.protocol.specs.Words.{Exec}
+use Rattle.protocol.specs.Warden.State.{Round}
+use Rattle.protocol.specs.Warden.Recovery.{round_of, with_round}
 use Rattle.recovery.specs.Turns.{is_of}
 
 place_is : {A : Type 0} (p : A → Bool) (xs : List A) (i : ℕ) → position p xs ≡ Some i → (position_or_len p xs ≡ i) × (i < length xs)

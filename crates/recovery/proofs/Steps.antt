@@ -4,16 +4,12 @@ use Rattle.std.specs.Prelude.{is_some, ◌==◌, ◌&&◌, position, flat_map}
 use Rattle.std.specs.List.{list_any}
 use Rattle.std.proofs.lemmas.Bool.Decides.{nat_tests}
 use Rattle.std.proofs.lemmas.List.{append-nil, set-get_or}
-use Rattle.morty_base.specs.declared.names.Exec.{Exec}
-use Rattle.morty_base.specs.declared.names.NodeId.TheVariants.{Warden}
-use Rattle.msg.specs.declared.Envelope.{Envelope}
-use Rattle.msg.specs.declared.Body.{Body}
-use Rattle.msg.specs.declared.Body.TheVariants.{Finalize, Decide, Ask}
+use Rattle.protocol.specs.Words.{Exec, Warden, Envelope, Body, Finalize, Decide, Ask}
 use Rattle.protocol.specs.Quorums.{quorum}
-use Rattle.protocol.specs.Warden.{DecidedProposal, Proposal, Round, ToldAnswer, WardenRules, WardenState, WardenTurn, still}
-use Rattle.protocol.specs.Warden.Parcel.{To_all}
-use Rattle.protocol.specs.Recovery.{recover, next_view, take_told, take_accept, count_accept, proposes, decides, fixed, used, to_client, with_told, with_proposal, with_accept, round_of, round_put, with_round}
-use Rattle.protocol.specs.World.{to_all, parcel}
+use Rattle.protocol.specs.Warden.State.{DecidedProposal, Proposal, Round, ToldAnswer, WardenRules, WardenState, WardenTurn, still}
+use Rattle.protocol.specs.Warden.State.Parcel.{To_all}
+use Rattle.protocol.specs.Warden.Recovery.{recover, next_view, take_told, take_accept, count_accept, proposes, decides, fixed, used, to_client, with_told, with_proposal, with_accept, round_of, round_put, with_round}
+use Rattle.protocol.specs.World.Events.{to_all, parcel}
 use Rattle.recovery.specs.Turns.{TakesTurn, is_of, counts_told, counts_accept, accepted_by}
 use Rattle.recovery.proofs.Places.{round_absent, round_found, round_put_at}
 

@@ -2,15 +2,12 @@
 use Rattle.std.proofs.Common.{◌≡◌, ℕ, Bool, true, false, cond, not, nat_le, Option, Some, None, List, suc, length, refl}
 use Rattle.std.specs.Prelude.{is_none, ◌==◌, ◌&&◌}
 use Rattle.std.specs.List.{list_any}
-use Rattle.morty_base.specs.declared.names.Exec.{Exec}
-use Rattle.morty_base.specs.declared.names.NodeId.{NodeId}
-use Rattle.msg.specs.declared.Body.{Body}
-use Rattle.msg.specs.declared.Body.TheVariants.{Accepted, Told}
+use Rattle.protocol.specs.Words.{Exec, NodeId, Body, Accepted, Told}
 use Rattle.protocol.specs.Quorums.{quorum}
-use Rattle.protocol.specs.Tally.{sender}
-use Rattle.protocol.specs.Warden.{Proposal, Round, ToldAnswer, Truncation, WardenRules, WardenState, WardenTurn, decision_on, still}
-use Rattle.protocol.specs.Recovery.{recover, recovery_hears, heard, next_view, take_told, take_accept, count_accept, proposes, decides, with_told, with_accept, round_of, round_put}
-use Rattle.protocol.specs.Truncation.{with_truncations}
+use Rattle.protocol.specs.Client.Counting.{sender}
+use Rattle.protocol.specs.Warden.State.{Proposal, Round, ToldAnswer, Truncation, WardenRules, WardenState, WardenTurn, decision_on, still}
+use Rattle.protocol.specs.Warden.Recovery.{recover, recovery_hears, heard, next_view, take_told, take_accept, count_accept, proposes, decides, with_told, with_accept, round_of, round_put}
+use Rattle.protocol.specs.Warden.Truncation.{with_truncations}
 use Rattle.recovery.specs.Laws.{turn_with, KeepsTruncations}
 
 take_told_keeps : (r : WardenRules) (s : WardenState) (ts : List Truncation) (x : Exec) (v : ℕ) (t : ToldAnswer) (o : Option Round)

@@ -3,11 +3,10 @@ use Rattle.std.proofs.Common.{◌≡◌, ◌+◌, ◌*◌, ◌<◌, ◌≤◌, �
 use Rattle.std.specs.Prelude.{IsTrue, is_none, ◌||◌, ◌&&◌}
 use Rattle.std.specs.List.{list_any}
 use Rattle.std.proofs.lemmas.Bool.Decides.{nat_tests}
-use Rattle.morty_base.specs.declared.names.Exec.{Exec}
-use Rattle.morty_base.specs.Names.{same_exec}
-use Rattle.protocol.specs.Warden.{Round, WardenRules, WardenState, decision_on}
-use Rattle.protocol.specs.Recovery.{next_view, used}
-use Rattle.protocol.specs.Truncation.{is_recovering}
+use Rattle.protocol.specs.Words.{Exec, same_exec}
+use Rattle.protocol.specs.Warden.State.{Round, WardenRules, WardenState, decision_on}
+use Rattle.protocol.specs.Warden.Recovery.{next_view, used}
+use Rattle.protocol.specs.Warden.Truncation.{is_recovering}
 use Rattle.recovery.specs.Turns.{RecoveringWarden, can_recover}
 
 used_none : (x : Exec) (rounds : List Round) → list_any (λ (a : Round). same_exec x a.exec) rounds ≡ false → used x rounds ≡ 0

@@ -1,11 +1,9 @@
 -- Recovery beside truncations.
 use Rattle.std.specs.Prelude.{◌≡◌, List}
-use Rattle.morty_base.specs.declared.names.Exec.{Exec}
-use Rattle.morty_base.specs.declared.names.NodeId.{NodeId}
-use Rattle.msg.specs.declared.Body.{Body}
-use Rattle.protocol.specs.Warden.{Truncation, WardenRules, WardenState, WardenTurn}
-use Rattle.protocol.specs.Recovery.{recover, recovery_hears}
-use Rattle.protocol.specs.Truncation.{with_truncations}
+use Rattle.protocol.specs.Words.{Exec, NodeId, Body}
+use Rattle.protocol.specs.Warden.State.{Truncation, WardenRules, WardenState, WardenTurn}
+use Rattle.protocol.specs.Warden.Recovery.{recover, recovery_hears}
+use Rattle.protocol.specs.Warden.Truncation.{with_truncations}
 
 -- the turn, with these truncations
 abbrev pub turn_with : WardenTurn → List Truncation → WardenTurn

@@ -1,6 +1,6 @@
 -- What a phase says of its view.
 use Rattle.std.specs.Prelude.{ℕ, List, [], Option, Some, None}
-use Rattle.protocol.specs.Warden.{Proposal}
+use Rattle.protocol.specs.Warden.State.{Proposal}
 use Rattle.recovery.specs.declared.rounds.Phase.{Phase}
 use Rattle.recovery.specs.declared.rounds.Phase.TheVariants.{Asking, Proposed}
 

@@ -2,15 +2,10 @@
 use Rattle.std.specs.Prelude.{◌≡◌, ℕ, Bool, false, not, ◌&&◌, ◌==◌, nat_le, List, [], ◌∷◌, ◌++◌, Option, is_none, is_some, flat_map}
 use Rattle.std.specs.List.{list_any}
 use Rattle.std.specs.Option.{option_map, option_and_then}
-use Rattle.morty_base.specs.declared.names.Exec.{Exec}
-use Rattle.morty_base.specs.declared.names.NodeId.TheVariants.{Warden}
-use Rattle.msg.specs.declared.Choice.{Choice}
-use Rattle.msg.specs.declared.Content.{Content}
-use Rattle.msg.specs.declared.Envelope.{Envelope}
-use Rattle.morty_base.specs.Names.{same_exec}
-use Rattle.protocol.specs.Warden.{Round, WardenRules, WardenState, WardenTurn, decision_on}
-use Rattle.protocol.specs.Recovery.{next_view}
-use Rattle.protocol.specs.World.{parcel}
+use Rattle.protocol.specs.Words.{Exec, Warden, Choice, Content, Envelope, same_exec}
+use Rattle.protocol.specs.Warden.State.{Round, WardenRules, WardenState, WardenTurn, decision_on}
+use Rattle.protocol.specs.Warden.Recovery.{next_view}
+use Rattle.protocol.specs.World.Events.{parcel}
 
 -- what a warden is given and remembers, and whether it is broken, as a call that changed it ran out of memory
 pub record RecoveringWarden : Type 0 where

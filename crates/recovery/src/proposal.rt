@@ -1,7 +1,7 @@
 ghost use Rattle.std.specs.Prelude.{◌≡◌, ◌==◌, IfOk};
 ghost use Rattle.std.specs.List.{list_all};
 ghost use Rattle.std.specs.Option.{option_copied};
-ghost use Rattle.protocol.specs.Recovery.{told_commit, told_decision, told_accept, told_content, higher, fixed_choice, with_content, fixed};
+ghost use Rattle.protocol.specs.Warden.Recovery.{told_commit, told_decision, told_accept, told_content, higher, fixed_choice, with_content, fixed};
 
 use morty_base::{Exec, NoMemory};
 use msg::{Accept, Body, Choice, Content, Vote, copy_content};
@@ -19,7 +19,7 @@ pub struct Told {
 }
 
 impl Model for Told {
-    ghost use Rattle.protocol.specs.Warden.{ToldAnswer};
+    ghost use Rattle.protocol.specs.Warden.State.{ToldAnswer};
 
     ghost Value = { ToldAnswer };
 
@@ -34,7 +34,7 @@ pub struct Proposal {
 }
 
 impl Model for Proposal {
-    ghost use Rattle.protocol.specs.Warden.{Proposal};
+    ghost use Rattle.protocol.specs.Warden.State.{Proposal};
 
     ghost Value = { Proposal };
 
@@ -196,7 +196,7 @@ fn with_content(
 }
 
 /// The proposal that the Tolds of a view fix: the proposer's rule of single-decree consensus.
-#[tactic(auto, unfolding(protocol::specs::Recovery::fixed))]
+#[tactic(auto, unfolding(protocol::specs::Warden::Recovery::fixed))]
 pub fn fixed(alloc: Global, tolds: &[Told]) -> Result<Proposal, NoMemory>
     ensures { IfOk result (λ p. p ≡ fixed tolds.now) }
 {

@@ -1,8 +1,8 @@
 ghost use Rattle.std.specs.Prelude.{◌≡◌, true, false, IsTrue, IsErr, OnOk, OnErr, is_none};
 ghost use Rattle.std.specs.Option.{option_copied};
-ghost use Rattle.protocol.specs.Recovery.{recover, recovery_hears};
-ghost use Rattle.protocol.specs.Truncation.{is_recovering};
-ghost use Rattle.protocol.specs.Warden.{decision_on, fresh_warden};
+ghost use Rattle.protocol.specs.Warden.Recovery.{recover, recovery_hears};
+ghost use Rattle.protocol.specs.Warden.Truncation.{is_recovering};
+ghost use Rattle.protocol.specs.Warden.State.{decision_on, fresh_warden};
 ghost use Rattle.recovery.specs.Turns.{Does, can_recover, decided_choice, decided_content};
 
 use crate::send::Rules;

@@ -2,7 +2,7 @@ ghost use Rattle.std.specs.Prelude.{◌≡◌, ◌==◌, ◌+◌, ◌*◌, ◌<�
 ghost use Rattle.std.specs.List.{list_any};
 ghost use Rattle.std.specs.Option.{option_copied};
 ghost use Rattle.morty_base.specs.Names.{same_exec};
-ghost use Rattle.protocol.specs.Recovery.{with_told, with_proposal, used};
+ghost use Rattle.protocol.specs.Warden.Recovery.{with_told, with_proposal, used};
 ghost use Rattle.recovery.specs.Turns.{is_of, counts_told, counts_accept, accepted_by};
 
 use crate::proposal::{Proposal, Told};
@@ -30,7 +30,7 @@ pub struct Round {
 }
 
 impl Model for Round {
-    ghost use Rattle.protocol.specs.Warden.{Round};
+    ghost use Rattle.protocol.specs.Warden.State.{Round};
 
     ghost Value = { Round };
 
@@ -178,7 +178,7 @@ pub struct Decision {
 }
 
 impl Model for Decision {
-    ghost use Rattle.protocol.specs.Warden.{DecidedProposal};
+    ghost use Rattle.protocol.specs.Warden.State.{DecidedProposal};
 
     ghost Value = { DecidedProposal };
 

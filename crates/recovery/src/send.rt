@@ -1,8 +1,8 @@
 ghost use Rattle.std.specs.Prelude.{◌≡◌, ◌++◌, OnOk, flat_map};
 ghost use Rattle.protocol.specs.Quorums.{quorum};
-ghost use Rattle.protocol.specs.Recovery.{to_client};
-ghost use Rattle.protocol.specs.Tally.{sender};
-ghost use Rattle.protocol.specs.World.{to_all, parcel};
+ghost use Rattle.protocol.specs.Warden.Recovery.{to_client};
+ghost use Rattle.protocol.specs.Client.Counting.{sender};
+ghost use Rattle.protocol.specs.World.Events.{to_all, parcel};
 ghost use Rattle.morty_base.specs.declared.names.NodeId.TheVariants.{Warden as WardenNode};
 
 use morty_base::{Exec, List, NoMemory, NodeId};
@@ -20,7 +20,7 @@ pub struct Rules {
 }
 
 impl Model for Rules {
-    ghost use Rattle.protocol.specs.Warden.{WardenRules};
+    ghost use Rattle.protocol.specs.Warden.State.{WardenRules};
 
     ghost Value = { WardenRules };
 

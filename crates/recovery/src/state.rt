@@ -1,11 +1,11 @@
 ghost use Rattle.std.specs.Prelude.{◌≡◌, ◌<◌, [], ◌∷◌, ◌++◌, flat_map, OnOk, MatchOption, is_none};
 ghost use Rattle.std.specs.Option.{option_copied};
 ghost use Rattle.morty_base.specs.declared.names.NodeId.TheVariants.{Warden as WardenNode};
-ghost use Rattle.protocol.specs.Recovery.{next_view, recover, round_of, take_told, take_accept, to_client, recovery_hears};
-ghost use Rattle.protocol.specs.Truncation.{is_recovering};
-ghost use Rattle.protocol.specs.Warden.{decision_on, fresh_warden};
-ghost use Rattle.protocol.specs.Warden.Parcel.{To_all};
-ghost use Rattle.protocol.specs.World.{parcel};
+ghost use Rattle.protocol.specs.Warden.Recovery.{next_view, recover, round_of, take_told, take_accept, to_client, recovery_hears};
+ghost use Rattle.protocol.specs.Warden.Truncation.{is_recovering};
+ghost use Rattle.protocol.specs.Warden.State.{decision_on, fresh_warden};
+ghost use Rattle.protocol.specs.Warden.State.Parcel.{To_all};
+ghost use Rattle.protocol.specs.World.Events.{parcel};
 ghost use Rattle.recovery.specs.Turns.{TakesTurn};
 
 use crate::proposal::{Proposal, Told, fixed};
@@ -25,7 +25,7 @@ pub struct State {
 
 impl Model for State {
     ghost use Rattle.std.specs.Prelude.{[]};
-    ghost use Rattle.protocol.specs.Warden.{WardenState};
+    ghost use Rattle.protocol.specs.Warden.State.{WardenState};
 
     ghost Value = { WardenState };
 

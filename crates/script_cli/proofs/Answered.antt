@@ -1,8 +1,8 @@
 -- What is answered for the words and the bytes, from what was written.
 use Rattle.std.proofs.Common.{◌≡◌, ℕ, ◌≤◌, ◌⊎◌, List, length, refl, sym, subst, inl, inr, Option, None, Some, arith}
 use Rattle.std.specs.Prelude.{IfSome}
-use Rattle.msg.specs.declared.Event.{Event}
-use Rattle.world.specs.declared.script.FirstScript.{FirstScript}
+use Rattle.protocol.specs.Words.{Event}
+use Rattle.first_form.specs.declared.script.FirstScript.{FirstScript}
 use Rattle.script_cli.specs.TopCall.{run_words, script_limit, not_built, report_text, IsNotBuilt, IsReport, IsScript, IsDue, Bad_command, Read_failed, Too_long, Not_built, IsAnswered, Written, Cut, Out_of_memory}
 use Rattle.script_cli.specs.TopCall.{Reported as Report_due}
 use Rattle.script_cli.specs.Made.{IsWritten, Whole, Part, IsTextAnswered, Reported, Refused, No_memory}

@@ -1,4 +1,2 @@
 mod Answered
-mod OneScript
-mod Places
 mod Ran

@@ -1,10 +1,10 @@
 -- What a status says of the run behind it.
 use Rattle.std.proofs.Common.{◌≡◌, ℕ, List, subst, Option, None, Some, arith}
 use Rattle.std.specs.Prelude.{IfSome}
-use Rattle.msg.specs.declared.Event.{Event}
-use Rattle.world.specs.declared.script.FirstScript.{FirstScript}
+use Rattle.protocol.specs.Words.{Event}
+use Rattle.first_form.specs.declared.script.FirstScript.{FirstScript}
 use Rattle.script_cli.specs.TopCall.{IsReport, OfScript, IsQuietRun, IsDue, Bad_command, Read_failed, Too_long, Not_built, Reported, IsAnswered, Written, Cut, Out_of_memory}
-use Rattle.script_cli.proofs.OneScript.{one_script}
+use Rattle.first_form.proofs.OneScript.{one_script}
 
 -- what is so of every script is so of the source's, and one fact of it gives another
 module _ (left : Option (List ℕ)) (P : FirstScript → Type 0) where

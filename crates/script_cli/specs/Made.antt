@@ -1,11 +1,11 @@
 -- What is made of a script's text, and how a text is written.
 use Rattle.std.specs.Prelude.{◌≡◌, ℕ, List, [], Option}
 use Rattle.morty_io.specs.Bytes.{Takes, TakesPart}
-use Rattle.msg.specs.declared.Event.{Event}
-use Rattle.world.specs.declared.script.FirstScript.{FirstScript}
+use Rattle.protocol.specs.Words.{Event}
+use Rattle.first_form.specs.declared.script.FirstScript.{FirstScript}
 use Rattle.script_cli.specs.declared.top.Made.{Made}
 use Rattle.script_cli.specs.declared.top.Made.TheVariants.{NotBuilt, Report}
-use Rattle.script_cli.specs.FirstForm.{IsFirstForm}
+use Rattle.first_form.specs.FirstForm.{IsFirstForm}
 use Rattle.script_cli.specs.TopCall.{report_text, IsQuietRun, not_built}
 
 -- the text is the report of the script's run with this journal

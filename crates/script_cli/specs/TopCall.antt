@@ -1,15 +1,14 @@
 -- What the top call answers: the lines of its faults, the report of a run, and what is due for words and bytes.
 use Rattle.std.specs.Prelude.{◌≡◌, ◌≢◌, ℕ, ◌<◌, ◌≤◌, ◌⊎◌, List, [], ◌∷◌, ◌++◌, length, reverse, codes, Option, IfSome}
-use Rattle.morty_base.specs.declared.names.Ended.TheVariants.{Quiet}
+use Rattle.protocol.specs.Words.{Quiet, Event}
 use Rattle.morty_io.specs.Bytes.{Takes, TakesPart}
 use Rattle.report.specs.Text.{line_feed, report_of}
-use Rattle.msg.specs.declared.Event.{Event}
-use Rattle.journals.specs.Fair.{IsFairRun}
-use Rattle.journals.specs.Worlds.{machine_of}
-use Rattle.outcomes.specs.Rows.{rows_of}
-use Rattle.world.specs.declared.script.FirstScript.{FirstScript}
-use Rattle.world.specs.Script.{scripted, plan, turns, world_of}
-use Rattle.script_cli.specs.FirstForm.{IsFirstForm}
+use Rattle.net_core.specs.Fair.{IsFairRun}
+use Rattle.world.specs.Machine.{machine_of}
+use Rattle.world.specs.Rows.{rows_of}
+use Rattle.first_form.specs.declared.script.FirstScript.{FirstScript}
+use Rattle.first_form.specs.Script.{scripted, plan, turns, world_of}
+use Rattle.first_form.specs.FirstForm.{IsFirstForm}
 
 -- the one command: run
 abbrev pub run_words : List (List ℕ)

@@ -1,7 +1,6 @@
 //! The program's top call: words and bytes in, a status and bytes out.
 #![tactic(auto)]
 
-mod first_form;
 mod top;
 
 pub use first_form::one_script;

@@ -1,23 +1,22 @@
 ghost use Rattle.std.specs.Prelude.{◌≡◌, ◌≢◌, ◌↔◌, ◌≤◌, ◌⊎◌, [], length, codes, reverse, Some, IsTrue, IfSome, IfOk};
 ghost use Rattle.morty_base.specs.declared.names.Ended.TheVariants.{Quiet};
-ghost use Rattle.journals.specs.Marks.{end_of};
-ghost use Rattle.journals.specs.Rounds.{InRounds};
-ghost use Rattle.journals.specs.Fair.{AllFair};
-ghost use Rattle.journals.specs.Worlds.{machine_of};
-ghost use Rattle.outcomes.specs.Outcome.{IsSafeThroughout, IsSerialOutcome};
-ghost use Rattle.world.specs.Script.{scripted, plan, turns, world_of};
+ghost use Rattle.net_core.specs.Marks.{end_of};
+ghost use Rattle.net_core.specs.Rounds.{InRounds};
+ghost use Rattle.net_core.specs.Fair.{AllFair};
+ghost use Rattle.world.specs.Machine.{machine_of};
+ghost use Rattle.law_outcomes.specs.Outcome.{IsSafeThroughout, IsSerialOutcome};
+ghost use Rattle.first_form.specs.Script.{scripted, plan, turns, world_of};
 ghost use Rattle.script_cli.specs.TopCall.{run_words, bad_command_line, read_failed as read_failed_line, IsAnswered, IsReported, IsRefused, IsScript, OfScript, IsCut, IsStatus};
 ghost use Rattle.morty_io.specs.Faults.{Rose};
 ghost use Rattle.morty_io.specs.Bytes.{Takes};
-ghost use Rattle.world.specs.declared.script.FirstScript.{FirstScript as FirstScriptValue};
+ghost use Rattle.first_form.specs.declared.script.FirstScript.{FirstScript as FirstScriptValue};
 ghost use Rattle.script_cli.specs.Made.{IsReportOf, IsMadeOf, IsWritten, IsTextAnswered};
 
-use crate::first_form::read_first_form;
+use first_form::{Event, FirstScript, Run, read_first_form, run_script};
 use morty_base::{Ended, List, NoMemory};
 use morty_io::{ReadEnd, Sink, Source, read_whole, write_whole};
 use report::report_text;
 use std::alloc::Global;
-use world::{Event, FirstScript, Run, run_script};
 
 /// How a call of the program ended: its status, and the events of the run that it made, if it made one.
 #[derive(Drop)]

@@ -2,23 +2,18 @@
 use Rattle.std.proofs.Common.{◌≡◌, ℕ, ◌<◌, ◌≤◌, refl, sym, ap, ◌∙◌, true, false, Bool, List, [], ◌∷◌, Option, Some, None, arith}
 use Rattle.std.specs.Prelude.{is_none, option_map, nat_le, nat_lt, cond}
 use Rattle.std.proofs.lemmas.Bool.{le-leb, lt-leb, le-ltb, lt-ltb}
-use Rattle.morty_base.specs.declared.names.Exec.{Exec}
-use Rattle.morty_base.specs.declared.names.NodeId.{NodeId}
-use Rattle.msg.specs.declared.Vote.{Vote}
-use Rattle.msg.specs.declared.Choice.{Choice}
-use Rattle.msg.specs.declared.Content.{Content}
-use Rattle.msg.specs.declared.Envelope.{Envelope}
-use Rattle.msg.specs.declared.Body.TheVariants.{Prepare, Finalize, Accepted, Ask, Told}
-use Rattle.protocol.specs.Lists.{first_of_two}
-use Rattle.protocol.specs.Replica.{Handled, promised, decided}
-use Rattle.protocol.specs.Votes.{Cast, casts, cast_on, may_vote, known, verdict}
-use Rattle.protocol.specs.Said.{answer}
+use Rattle.protocol.specs.Words.{Exec, NodeId, Vote, Choice, Content, Envelope, Prepare, Finalize, Accepted, Ask, Told}
+use Rattle.std.specs.Option.{option_or}
+use Rattle.protocol.specs.Replica.Taken.{Handled}
+use Rattle.protocol.specs.Replica.Acceptor.{promised, decided}
+use Rattle.protocol.specs.Replica.Votes.{Cast, casts, cast_on, may_vote, known, verdict}
+use Rattle.protocol.specs.Replica.Says.{answer}
 use Rattle.protocol.specs.declared.First2.{First2}
-use Rattle.protocol.proofs.Orders.{same_exec_refl}
+use Rattle.protocol.proofs.NamesLemmas.{same_exec_refl}
 use Rattle.view_cell.specs.declared.Cell.{Cell}
 use Rattle.view_cell.specs.Cells.{IsCellOf, with_pair, open_to_vote, VotesStand, DecisionsStand}
 
-first_alone : {A : Type 0} (o : Option A) → first_of_two o None ≡ o
+first_alone : {A : Type 0} (o : Option A) → option_or o None ≡ o
 first_alone None = refl
 first_alone (Some a) = refl
 

@@ -1,18 +1,12 @@
 -- A cell as what a replica's list says of one execution.
 use Rattle.std.specs.Prelude.{◌≡◌, ℕ, Bool, false, cond, ◌&&◌, ◌==◌, List, [], ◌∷◌, Option, Some, None, is_none}
-use Rattle.morty_base.specs.declared.names.Exec.{Exec}
-use Rattle.morty_base.specs.declared.names.NodeId.{NodeId}
-use Rattle.morty_base.specs.Names.{same_exec}
-use Rattle.msg.specs.declared.Vote.{Vote}
-use Rattle.msg.specs.declared.Choice.{Choice}
-use Rattle.msg.specs.declared.Content.{Content}
-use Rattle.msg.specs.declared.Envelope.{Envelope}
-use Rattle.msg.specs.declared.Body.{Body}
-use Rattle.msg.specs.declared.Body.TheVariants.{Prepare, Finalize, Accepted, Decide, Ask, Told}
-use Rattle.protocol.specs.Lists.{first_of_two, one_when}
-use Rattle.protocol.specs.Replica.{Handled, promised, accepted, decided}
-use Rattle.protocol.specs.Votes.{vote, casts, known, verdict}
-use Rattle.protocol.specs.Said.{answer}
+use Rattle.protocol.specs.Words.{Exec, NodeId, same_exec, Vote, Choice, Content, Envelope, Body, Prepare, Finalize, Accepted, Decide, Ask, Told}
+use Rattle.std.specs.Option.{option_or}
+use Rattle.protocol.specs.Lists.{one_when}
+use Rattle.protocol.specs.Replica.Taken.{Handled}
+use Rattle.protocol.specs.Replica.Acceptor.{promised, accepted, decided}
+use Rattle.protocol.specs.Replica.Votes.{vote, casts, known, verdict}
+use Rattle.protocol.specs.Replica.Says.{answer}
 use Rattle.protocol.specs.declared.First2.{First2}
 use Rattle.view_cell.specs.declared.Cell.{Cell}
 use Rattle.view_cell.specs.declared.ToldPart.{ToldPart}
@@ -73,7 +67,7 @@ VotesStand = (h : Handled) (x : Exec) (c : Cell) (content : Content) (from to : 
 -- a Decide of x brings its cell the decision, unless one stands
 abbrev pub DecisionsStand : Type 0
 DecisionsStand = (h : Handled) (x : Exec) (c : Cell) (choice : Choice) (content : Option Content) (from to : NodeId) → IsCellOf h x c →
-    IsCellOf (record { from = from; to = to; body = Decide x choice content } ∷ h) x (record c { decided = first_of_two c.decided (Some choice) })
+    IsCellOf (record { from = from; to = to; body = Decide x choice content } ∷ h) x (record c { decided = option_or c.decided (Some choice) })
 
 -- the body votes, proposes, decides or asks for a promise on x
 abbrev pub may_change : Exec → Body → Bool

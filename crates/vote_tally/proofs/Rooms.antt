@@ -1,11 +1,11 @@
 -- A tally has room for the vote of a replica that has not voted, and its votes stay first votes.
 use Rattle.std.proofs.Common.{◌≡◌, ℕ, ◌+◌, ◌<◌, ◌≤◌, inl, inr, ap, false, [], ◌∷◌, ◌++◌, length, arith, length-append}
 use Rattle.std.proofs.lemmas.List.{map-append, length-map}
-use Rattle.msg.specs.declared.Vote.{Vote}
-use Rattle.protocol.specs.Client.{CountedVote}
-use Rattle.protocol.proofs.Members.{IsIn-cases}
-use Rattle.protocol.proofs.Quorums.{distinct_few}
-use Rattle.protocol.proofs.Distinct.{distinct_more, absent}
+use Rattle.protocol.specs.Words.{Vote}
+use Rattle.protocol.specs.Client.State.{CountedVote}
+use Rattle.protocol.proofs.ListsLemmas.{IsIn-cases}
+use Rattle.protocol.proofs.QuorumsLemmas.{distinct_few}
+use Rattle.protocol.proofs.DistinctLemmas.{distinct_more, absent}
 use Rattle.vote_tally.specs.Counted.{Counted, has_voted, with_vote, voters, HasFirstVotes}
 
 module _ (t : Counted) (j : ℕ) (v : Vote) (low : 0 < j) (high : j ≤ t.replicas) (new : has_voted j t ≡ false) (first : HasFirstVotes t) where

@@ -5,12 +5,12 @@ use Rattle.std.specs.List.{list_any}
 use Rattle.std.proofs.lemmas.Bool.{le-leb, lt-leb, leb-false, le-ltb, lt-ltb, ltb-false}
 use Rattle.std.proofs.lemmas.Bool.Decides.{nat_tests}
 use Rattle.std.proofs.lemmas.List.Recursion.{is_count_by}
-use Rattle.msg.specs.declared.Choice.TheVariants.{Abandon, Commit as ToCommit}
+use Rattle.protocol.specs.Words.{Abandon, ToCommit}
 use Rattle.protocol.specs.Lists.{tally}
-use Rattle.protocol.specs.Client.{CountedVote}
+use Rattle.protocol.specs.Client.State.{CountedVote}
 use Rattle.protocol.specs.Quorums.{quorum}
-use Rattle.protocol.specs.Votes.{is_commit_vote}
-use Rattle.protocol.specs.Tally.{count_votes, is_final_vote, not_commit, tally_says, hurried}
+use Rattle.protocol.specs.Replica.Votes.{is_commit_vote}
+use Rattle.protocol.specs.Client.Counting.{count_votes, is_final_vote, not_commit, tally_says, hurried}
 use Rattle.protocol.specs.declared.TallyOut.TheVariants.{Wait, FastCommit, FastAbandon, Propose}
 use Rattle.vote_tally.specs.Counted.{Counted, CallsForNothing}
 

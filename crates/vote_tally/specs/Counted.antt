@@ -1,12 +1,12 @@
 -- What contracts see of a tally.
 use Rattle.std.specs.Prelude.{◌≡◌, ℕ, ◌≤◌, ◌<◌, Bool, ◌⊎◌, ◌==◌, List, [], ◌∷◌, ◌++◌, map}
 use Rattle.std.specs.List.{list_any}
-use Rattle.msg.specs.declared.Vote.{Vote}
+use Rattle.protocol.specs.Words.{Vote}
 use Rattle.protocol.specs.Lists.{IsIn}
-use Rattle.protocol.specs.Client.{CountedVote}
-use Rattle.protocol.specs.Quorums.{IsDistinct, quorum}
-use Rattle.protocol.specs.Votes.{is_commit_vote}
-use Rattle.protocol.specs.Tally.{count_votes, is_final_vote, not_commit}
+use Rattle.protocol.specs.Client.State.{CountedVote}
+use Rattle.protocol.specs.Quorums.{HasNoRepeats, quorum}
+use Rattle.protocol.specs.Replica.Votes.{is_commit_vote}
+use Rattle.protocol.specs.Client.Counting.{count_votes, is_final_vote, not_commit}
 
 -- the number of replicas, and the first vote of each that voted, in order of arrival
 pub record Counted : Type 0 where
@@ -27,7 +27,7 @@ voters t = map (λ b. b.replica) t.votes
 
 -- at most one vote of each of the replicas, from 1 on, and of no other
 pub record HasFirstVotes (t : Counted) : Type 0 where
-  pub distinct : IsDistinct (voters t)
+  pub distinct : HasNoRepeats (voters t)
   pub ranged : (j : ℕ) → IsIn j (voters t) → (0 < j) × (j ≤ t.replicas)
 
 -- no case of the rule on votes holds

@@ -5,8 +5,8 @@ ghost use Rattle.std.specs.Prelude.{◌≡◌, ◌<◌, ◌≤◌, ◌↔◌, �
 ghost use Rattle.std.specs.Bool.{OnTrue, OnFalse};
 ghost use Rattle.std.specs.List.{list_any};
 ghost use Rattle.protocol.specs.Quorums.{quorum};
-ghost use Rattle.protocol.specs.Votes.{is_commit_vote};
-ghost use Rattle.protocol.specs.Tally.{is_final_vote, tally_says, hurried};
+ghost use Rattle.protocol.specs.Replica.Votes.{is_commit_vote};
+ghost use Rattle.protocol.specs.Client.Counting.{is_final_vote, tally_says, hurried};
 ghost use Rattle.vote_tally.specs.Counted.{has_voted, with_vote, CallsForNothing};
 
 use arrayvec::ArrayVec;
@@ -24,7 +24,7 @@ struct FirstVote {
 }
 
 impl Model for FirstVote {
-    ghost use Rattle.protocol.specs.Client.{CountedVote};
+    ghost use Rattle.protocol.specs.Client.State.{CountedVote};
 
     ghost Value = { CountedVote };
 

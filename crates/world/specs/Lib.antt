@@ -1,3 +1,3 @@
-pub mod Script
-pub mod Stage
-pub mod Play
+pub mod Machine
+pub mod Rows
+pub mod Laws

@@ -1,12 +1,9 @@
-//! A run of one client, one replica and one transaction that adds to a cell. Its journal and its rows are those of the
-//! protocol's definitions. It is small on purpose: the handlers of the protocol take its place.
+//! The world of a plan as a machine that replays events, and the rows that are reported of a world, by definition.
 #![tactic(auto)]
 
-mod list;
-mod run;
-mod script;
-mod stage;
+ghost use Rattle.world.specs.Laws.{HistoriesReplay};
 
-pub use msg::{Event, Pick};
-pub use run::{Run, run_script};
-pub use script::FirstScript;
+/// The world after a history is the replay of its events in order.
+pub fn histories_replay()
+    ensures { HistoriesReplay }
+{}

@@ -1,5 +1,5 @@
 use Rattle.std.proofs.Common.{◌<◌, length, arith}
-use Rattle.protocol.specs.Votes.{clashes_with_vote}
+use Rattle.protocol.specs.Replica.Votes.{clashes_with_vote}
 use Rattle.ballots.proofs.Steps.{any_next}
 use Rattle.ballots.proofs.votes.any_clashes.Goals as goal
 

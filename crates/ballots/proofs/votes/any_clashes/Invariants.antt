@@ -1,8 +1,8 @@
 use Rattle.std.proofs.Common.{◌≡◌, take, map}
 use Rattle.std.specs.List.{list_any}
 use Rattle.held_writes.specs.Knowledge.{StandsFor}
-use Rattle.protocol.specs.Replica.{Handled}
-use Rattle.protocol.specs.Votes.{clashes_with_vote}
+use Rattle.protocol.specs.Replica.Taken.{Handled}
+use Rattle.protocol.specs.Replica.Votes.{clashes_with_vote}
 use Rattle.ballots.specs.Cells.{cast_of}
 use Rattle.ballots.proofs.votes.any_clashes.Given as goal
 

@@ -1,8 +1,8 @@
 use Rattle.std.proofs.Common.{◌≡◌, ◌++◌, take}
 use Rattle.std.specs.List.{flat_map}
 use Rattle.held_writes.specs.Knowledge.{StandsFor}
-use Rattle.protocol.specs.Replica.{Handled}
-use Rattle.protocol.specs.Said.{note_for, readers}
+use Rattle.protocol.specs.Replica.Taken.{Handled}
+use Rattle.protocol.specs.Replica.Readers.{note_for, readers}
 use Rattle.due_notes.specs.Standing.{sights}
 use Rattle.due_notes.proofs.notes.send_due.Given as goal
 

@@ -1,5 +1,5 @@
 use Rattle.std.proofs.Common.{◌≡◌, ◌++◌, map, drop}
-use Rattle.protocol.specs.Said.{put_reader}
+use Rattle.protocol.specs.Replica.Readers.{put_reader}
 use Rattle.due_notes.specs.Rest.{reader_of, rest_of}
 use Rattle.due_notes.proofs.readers.put_reader.Given as goal
 

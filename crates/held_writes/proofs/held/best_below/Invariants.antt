@@ -1,5 +1,5 @@
 use Rattle.std.proofs.Common.{◌≡◌, take}
-use Rattle.protocol.specs.Held.{best_below}
+use Rattle.protocol.specs.Replica.Held.{best_below}
 use Rattle.held_writes.proofs.held.best_below.Given as goal
 
 abbrev pub invariant-loop-other : goal.invariant-loop-other

@@ -1,5 +1,5 @@
 use Rattle.std.proofs.Common.{◌≡◌, ◌∙◌, sym, ap, to_z, of_z, w64, rules}
-use Rattle.protocol.specs.Held.{first_value}
+use Rattle.protocol.specs.Replica.Held.{first_value}
 use Rattle.held_writes.proofs.Growth.{first_held_none, first_held_some}
 use Rattle.held_writes.proofs.held.first_held.Goals as goal
 

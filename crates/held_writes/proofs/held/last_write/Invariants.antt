@@ -1,5 +1,5 @@
 use Rattle.std.proofs.Common.{◌≡◌, take}
-use Rattle.protocol.specs.Held.{last_write}
+use Rattle.protocol.specs.Replica.Held.{last_write}
 use Rattle.held_writes.proofs.held.last_write.Given as goal
 
 abbrev pub invariant-loop-at : goal.invariant-loop-at

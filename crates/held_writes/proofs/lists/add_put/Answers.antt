@@ -1,6 +1,6 @@
 use Rattle.std.proofs.Common.{◌≡◌, ◌∷◌, ◌∙◌, List, ap, subst, true, false}
 use Rattle.held_writes.specs.declared.lists.Put.{Put}
-use Rattle.msg.specs.declared.Write.{Write}
+use Rattle.protocol.specs.Words.{Write}
 use Rattle.held_writes.specs.Lists.{Replaces, put_on}
 use Rattle.held_writes.proofs.Knowing.{put_on_first, put_on_kept}
 use Rattle.held_writes.proofs.lists.add_put.Goals as goal

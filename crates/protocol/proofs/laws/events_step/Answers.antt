@@ -1,4 +1,4 @@
-use Rattle.protocol.proofs.Basic as proved
+use Rattle.protocol.proofs.BasicLaws as proved
 use Rattle.protocol.proofs.laws.events_step.Goals as goal
 
 pub returns : goal.returns

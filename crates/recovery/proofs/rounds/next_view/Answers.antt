@@ -1,9 +1,8 @@
 use Rattle.std.proofs.Common.{◌≡◌, ℕ, ◌+◌, ◌*◌, ◌<◌, true, false, cond, suc, List, length, drop, get_or, ap, sym, subst, ◌∙◌, arith}
 use Rattle.std.proofs.lemmas.List.{at_drop_more}
-use Rattle.morty_base.specs.declared.names.Exec.{Exec}
-use Rattle.morty_base.specs.Names.{same_exec}
-use Rattle.protocol.specs.Warden.{Round}
-use Rattle.protocol.specs.Recovery.{used}
+use Rattle.protocol.specs.Words.{Exec, same_exec}
+use Rattle.protocol.specs.Warden.State.{Round}
+use Rattle.protocol.specs.Warden.Recovery.{used}
 use Rattle.recovery.proofs.rounds.next_view.Goals as goal
 use Rattle.recovery.proofs.rounds.next_view.Goals.{then-is_about+in_ok-view, else-is_about}
 

@@ -1,5 +1,5 @@
 use Rattle.std.proofs.Common.{◌≡◌, ◌+◌, ◌*◌, drop}
-use Rattle.protocol.specs.Recovery.{used}
+use Rattle.protocol.specs.Warden.Recovery.{used}
 use Rattle.recovery.proofs.rounds.next_view.Given as goal
 
 -- what is still to be added, with the view so far, is the next view

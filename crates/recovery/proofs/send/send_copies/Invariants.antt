@@ -1,5 +1,5 @@
 use Rattle.std.proofs.Common.{◌≡◌, ◌++◌}
-use Rattle.protocol.specs.World.{to_all}
+use Rattle.protocol.specs.World.Events.{to_all}
 use Rattle.recovery.proofs.send.send_copies.Given as goal
 
 abbrev pub invariant-loop-before : goal.invariant-loop-before

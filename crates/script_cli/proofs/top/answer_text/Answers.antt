@@ -1,6 +1,6 @@
 use Rattle.std.proofs.Common.{◌≡◌, ℕ, List, ap, ◌∙◌, subst}
 use Rattle.morty_io.specs.Faults.{Rose}
-use Rattle.msg.specs.declared.Event.{Event}
+use Rattle.protocol.specs.Words.{Event}
 use Rattle.script_cli.specs.TopCall.{report_text, IsQuietRun}
 use Rattle.script_cli.specs.Made.{IsWritten, Reported, Refused}
 use Rattle.script_cli.proofs.top.answer_text.Goals as goal

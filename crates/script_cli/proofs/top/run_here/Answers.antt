@@ -1,13 +1,13 @@
 use Rattle.std.proofs.Common.{◌≡◌, Some, lit<}
 use Rattle.std.specs.Prelude.{reverse}
-use Rattle.morty_base.specs.declared.names.Ended.TheVariants.{Quiet}
-use Rattle.journals.specs.Fair.{AllFair}
-use Rattle.journals.specs.Marks.{end_of}
-use Rattle.journals.specs.Rounds.{InRounds}
-use Rattle.journals.specs.Worlds.{machine_of}
-use Rattle.outcomes.specs.Outcome.{IsSafeThroughout, IsSerialOutcome}
-use Rattle.outcomes.proofs.Outcomes.{outcomes_are_safe, outcomes_are_serial}
-use Rattle.world.specs.Script.{scripted, plan, turns, world_of}
+use Rattle.protocol.specs.Words.{Quiet}
+use Rattle.net_core.specs.Fair.{AllFair}
+use Rattle.net_core.specs.Marks.{end_of}
+use Rattle.net_core.specs.Rounds.{InRounds}
+use Rattle.world.specs.Machine.{machine_of}
+use Rattle.law_outcomes.specs.Outcome.{IsSafeThroughout, IsSerialOutcome}
+use Rattle.law_outcomes.proofs.Outcomes.{outcomes_are_safe, outcomes_are_serial}
+use Rattle.first_form.specs.Script.{scripted, plan, turns, world_of}
 use Rattle.script_cli.specs.TopCall.{IsQuietRun}
 use Rattle.script_cli.proofs.Answered.{completes_told}
 use Rattle.script_cli.proofs.Ran.{of_all, of_script, quiet_run}

@@ -1,5 +1,5 @@
 use Rattle.std.proofs.Common.{◌≡◌, ◌<◌, ◌≤◌, inl, inr, false, sym, ap, ◌∙◌, length, arith, lit<}
-use Rattle.protocol.specs.Tally.{tally_says}
+use Rattle.protocol.specs.Client.Counting.{tally_says}
 use Rattle.vote_tally.specs.Counted.{Counted, has_voted}
 use Rattle.vote_tally.proofs.Rooms.{first_more, room_left}
 use Rattle.vote_tally.proofs.Tallies.{nothing_called_for, nothing_said}

@@ -1,8 +1,8 @@
 use Rattle.std.proofs.Common.{◌≡◌, ◌∙◌, ap, map}
 use Rattle.std.specs.Prelude.{option_map}
-use Rattle.protocol.specs.Lists.{first_of_two}
-use Rattle.protocol.specs.Replica.{commits, accepted_content}
-use Rattle.protocol.specs.Votes.{cast_on, casts}
+use Rattle.std.specs.Option.{option_or}
+use Rattle.protocol.specs.Replica.Acceptor.{commits, accepted_content}
+use Rattle.protocol.specs.Replica.Votes.{cast_on, casts}
 use Rattle.ballots.specs.Cells.{content_on, cast_of}
 use Rattle.ballots.proofs.state.Ballots.known.Goals as goal
 
@@ -18,7 +18,7 @@ returns c = λ h w s.
     let accepted : c.in_ok-accepted.accepted ≡ accepted_content h c.args.exec =
     c.in_ok-accepted.ensures ∙ (ap (content_on c.args.exec) c.as_slice-2.ensures ∙ s.content_is c.args.exec) in
     c.first_content-2.ensures
-    ∙ (ap (λ o. first_of_two o c.first_content.result) committed
-    ∙ ap (first_of_two (content_on x (commits h))) (c.first_content.ensures
-    ∙ (ap (λ o. first_of_two o c.in_ok-accepted.accepted) voted
-    ∙ ap (first_of_two (option_map (λ y. y.content) (cast_on x (casts h)))) accepted)))
+    ∙ (ap (λ o. option_or o c.first_content.result) committed
+    ∙ ap (option_or (content_on x (commits h))) (c.first_content.ensures
+    ∙ (ap (λ o. option_or o c.in_ok-accepted.accepted) voted
+    ∙ ap (option_or (option_map (λ y. y.content) (cast_on x (casts h)))) accepted)))

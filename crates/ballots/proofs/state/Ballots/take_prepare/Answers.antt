@@ -1,8 +1,9 @@
 use Rattle.std.proofs.Common.{◌∷◌, ◌++◌, ◌∙◌, ap, sym, map}
-use Rattle.msg.specs.declared.Content.{Content}
-use Rattle.protocol.specs.Replica.{fence, promised, accepted_content}
-use Rattle.protocol.specs.Votes.{Cast, casts, may_vote, verdict}
-use Rattle.held_writes.proofs.Growth.{first_of_two_none}
+use Rattle.protocol.specs.Words.{Content}
+use Rattle.protocol.specs.Replica.Taken.{fence}
+use Rattle.protocol.specs.Replica.Acceptor.{promised, accepted_content}
+use Rattle.protocol.specs.Replica.Votes.{Cast, casts, may_vote, verdict}
+use Rattle.held_writes.proofs.Growth.{option_or_none}
 use Rattle.held_writes.proofs.Knowing.{later_none}
 use Rattle.ballots.specs.Cells.{cast_of}
 use Rattle.ballots.proofs.Steps.{max_none, one_when_none, one_when_some}
@@ -17,7 +18,7 @@ returns-in-None c = λ h from to w s.
       fence_is = s.fence_is ∙ sym (later_none (fence h));
       promised_is = λ y. s.promised_is y ∙ max_none (promised h y);
       accepted_is = s.accepted_is;
-      content_is = λ y. s.content_is y ∙ sym (first_of_two_none (accepted_content h y));
+      content_is = λ y. s.content_is y ∙ sym (option_or_none (accepted_content h y));
       casts_is = s.casts_is ∙ ap (λ l. l ++ casts h) (one_when_none b v r (c.in-None.ensures h w s));
     }
 
@@ -30,7 +31,7 @@ returns-in_ok-put_first-in-Some c = λ h from to w s.
       fence_is = s.fence_is ∙ sym (later_none (fence h));
       promised_is = λ y. s.promised_is y ∙ max_none (promised h y);
       accepted_is = s.accepted_is;
-      content_is = λ y. s.content_is y ∙ sym (first_of_two_none (accepted_content h y));
+      content_is = λ y. s.content_is y ∙ sym (option_or_none (accepted_content h y));
       casts_is = ap (map cast_of) c.in_ok-put_first-in-Some.ensures
           ∙ (ap (λ k. cast k ∷ map cast_of c.args.self.now.casts) c.in_ok-content-in-Some.ensures
           ∙ (ap (λ l. cast c.args.content.now ∷ l) s.casts_is

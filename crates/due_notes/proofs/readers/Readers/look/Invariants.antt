@@ -1,6 +1,6 @@
 use Rattle.std.proofs.Common.{◌≡◌, map, take}
 use Rattle.held_writes.specs.Knowledge.{StandsFor}
-use Rattle.protocol.specs.Replica.{Handled}
+use Rattle.protocol.specs.Replica.Taken.{Handled}
 use Rattle.due_notes.specs.Rest.{reader_of, seen_of}
 use Rattle.due_notes.proofs.readers.Readers.look.Given as goal
 

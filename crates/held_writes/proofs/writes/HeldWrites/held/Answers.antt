@@ -1,6 +1,6 @@
 use Rattle.std.proofs.Common.{◌≡◌, [], ◌∷◌, ◌++◌, ◌∙◌, ap}
 use Rattle.std.specs.List.{filter_map}
-use Rattle.protocol.specs.Held.{first_held}
+use Rattle.protocol.specs.Replica.Held.{first_held}
 use Rattle.held_writes.specs.Commits.{entry_held_of, commit_held_of}
 use Rattle.held_writes.proofs.Knowing.{held_parts}
 use Rattle.held_writes.proofs.writes.HeldWrites.held.Goals as goal

@@ -1,5 +1,5 @@
 use Rattle.std.proofs.Common.{◌∙◌, ap}
-use Rattle.protocol.specs.Held.{first_held, best_below, latest}
+use Rattle.protocol.specs.Replica.Held.{first_held, best_below, latest}
 use Rattle.held_writes.proofs.writes.HeldWrites.latest.Goals as goal
 
 pub returns : goal.returns

@@ -1,6 +1,6 @@
 use Rattle.std.proofs.Common.{◌≡◌, take}
 use Rattle.std.specs.List.{filter_map}
-use Rattle.protocol.specs.Replica.{Handled}
+use Rattle.protocol.specs.Replica.Taken.{Handled}
 use Rattle.held_writes.specs.Knowledge.{StandsFor, open_held}
 use Rattle.held_writes.proofs.writes.HeldWrites.open_held.Given as goal
 

@@ -1,7 +1,7 @@
 use Rattle.std.proofs.Common.{◌&&◌, ◌∙◌, ap, sym, nat_le}
 use Rattle.std.specs.List.{list_any}
-use Rattle.morty_base.specs.Names.{same_version}
-use Rattle.protocol.specs.Held.{kept_put}
+use Rattle.protocol.specs.Words.{same_version}
+use Rattle.protocol.specs.Replica.Held.{kept_put}
 use Rattle.held_writes.specs.Lists.{put_on, put_of}
 use Rattle.held_writes.proofs.Knowing.{counting_none}
 use Rattle.held_writes.proofs.writes.HeldWrites.put_held.Goals as goal

@@ -1,10 +1,11 @@
 use Rattle.std.proofs.Common.{◌≡◌, ◌++◌, ◌∙◌, ap, sym}
 use Rattle.std.specs.Prelude.{is_none}
-use Rattle.msg.specs.declared.Body.TheVariants.{Decide}
-use Rattle.morty_base.specs.Names.{same_exec}
-use Rattle.protocol.specs.Lists.{first_of_two, when}
-use Rattle.protocol.specs.Replica.{dropped, decided, new_commit}
-use Rattle.protocol.specs.Held.{new_abandon}
+use Rattle.protocol.specs.Words.{Decide, same_exec}
+use Rattle.std.specs.Option.{option_or}
+use Rattle.std.specs.Bool.{then_some}
+use Rattle.protocol.specs.Replica.Taken.{dropped}
+use Rattle.protocol.specs.Replica.Acceptor.{decided, new_commit}
+use Rattle.protocol.specs.Replica.Held.{new_abandon}
 use Rattle.held_writes.specs.Lists.{decision_on}
 use Rattle.held_writes.proofs.Knowing.{later_none, decision_on_push}
 use Rattle.held_writes.proofs.writes.HeldWrites.take_decision.Goals as goal
@@ -18,7 +19,7 @@ returns c = λ h from to s.
       base_is = s.base_is;
       decided_is = λ y. ap (decision_on y) c.in_ok-push.ensures.ok
           ∙ (decision_on_push y c.args.self.now.decisions (record { exec = c.args.exec; choice = c.args.choice })
-          ∙ ap (λ o. first_of_two o (when (same_exec y c.args.exec) c.args.choice)) (s.decided_is y));
+          ∙ ap (λ o. option_or o (then_some (same_exec y c.args.exec) c.args.choice)) (s.decided_is y));
       commits_is = c.in_ok-add_commit.ensures h undecided ∙ ap (λ l. new_commit h (Decide c.args.exec c.args.choice c.args.content.now) ++ l) s.commits_is;
       abandons_is = c.in_ok-add_abandon.ensures h undecided ∙ ap (λ l. new_abandon h (Decide c.args.exec c.args.choice c.args.content.now) ++ l) s.abandons_is;
       versions_is = s.versions_is;

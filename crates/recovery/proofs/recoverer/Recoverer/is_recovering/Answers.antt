@@ -1,5 +1,5 @@
 use Rattle.std.proofs.Common.{◌<◌, ◌^◌, ap, subst, sym, ◌∙◌}
-use Rattle.protocol.specs.Truncation.{is_recovering}
+use Rattle.protocol.specs.Warden.Truncation.{is_recovering}
 use Rattle.recovery.specs.Turns.{RecoveringWarden}
 use Rattle.recovery.proofs.Unasked.{unasked_can_recover}
 use Rattle.recovery.proofs.recoverer.Recoverer.is_recovering.Goals as goal

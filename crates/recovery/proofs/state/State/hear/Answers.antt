@@ -1,7 +1,7 @@
 use Rattle.std.proofs.Common.{ap, sym, subst, ◌∙◌, refl}
 use Rattle.std.proofs.lemmas.Result.{on_ok_weaker}
-use Rattle.protocol.specs.Recovery.{recovery_hears, take_told, round_of}
-use Rattle.protocol.specs.Warden.{WardenTurn}
+use Rattle.protocol.specs.Warden.Recovery.{recovery_hears, take_told, round_of}
+use Rattle.protocol.specs.Warden.State.{WardenTurn}
 use Rattle.recovery.specs.Turns.{TakesTurn}
 use Rattle.recovery.proofs.Steps.{unmoved}
 use Rattle.recovery.proofs.Hearing.{hears_nobody, hears_decided_told, hears_decided_accepted, hears_told, hears_accepted, hears_other}

@@ -1,7 +1,7 @@
 use Rattle.std.proofs.Common.{◌∷◌, ap, sym, ◌∙◌}
 use Rattle.std.proofs.lemmas.Result.{on_ok_weaker}
-use Rattle.protocol.specs.Recovery.{next_view, recover}
-use Rattle.protocol.specs.Warden.{Round, WardenState}
+use Rattle.protocol.specs.Warden.Recovery.{next_view, recover}
+use Rattle.protocol.specs.Warden.State.{Round, WardenState}
 use Rattle.recovery.proofs.Steps.{at_state, bare, recovers}
 use Rattle.recovery.proofs.state.State.recover.Goals as goal
 

@@ -1,7 +1,7 @@
 use Rattle.std.proofs.Common.{subst, sym, ap, ◌∙◌, arith}
 use Rattle.std.proofs.lemmas.Result.{on_ok_weaker}
-use Rattle.protocol.specs.Recovery.{round_of, take_accept}
-use Rattle.protocol.specs.Warden.{WardenState}
+use Rattle.protocol.specs.Warden.Recovery.{round_of, take_accept}
+use Rattle.protocol.specs.Warden.State.{WardenState}
 use Rattle.std.specs.Option.{option_copied}
 use Rattle.recovery.specs.Turns.{TakesTurn}
 use Rattle.recovery.proofs.Places.{place_by}

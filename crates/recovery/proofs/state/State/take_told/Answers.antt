@@ -1,7 +1,7 @@
 use Rattle.std.proofs.Common.{length, subst, sym, ap, ◌∙◌, arith}
 use Rattle.std.proofs.lemmas.Result.{on_ok_weaker}
-use Rattle.protocol.specs.Recovery.{fixed, round_of, take_told}
-use Rattle.protocol.specs.Warden.{ToldAnswer, WardenState}
+use Rattle.protocol.specs.Warden.Recovery.{fixed, round_of, take_told}
+use Rattle.protocol.specs.Warden.State.{ToldAnswer, WardenState}
 use Rattle.recovery.specs.Turns.{TakesTurn, counts_told}
 use Rattle.recovery.proofs.Places.{place_by}
 use Rattle.recovery.proofs.Steps.{at_state, told_unasked, told_ignored, told_counted, told_fixes}

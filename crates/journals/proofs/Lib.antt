@@ -1,4 +1,0 @@
-pub mod Computed
-pub mod Turns
-pub mod Replays
-pub mod Answers

@@ -1,0 +1,42 @@
+-- Every run is safe at each moment, and its outcome is serial.
+use Rattle.std.proofs.Common.{◌≡◌, ap, ◌∙◌, List, [], ◌∷◌, inl, inr}
+use Rattle.std.specs.Prelude.{map}
+use Rattle.protocol.specs.Words.{Key}
+use Rattle.txn_lang.specs.Keys.{Entry, held}
+use Rattle.txn_lang.specs.Program.{last_map}
+use Rattle.report.specs.declared.rows.ValueRow.{ValueRow}
+use Rattle.protocol.specs.Lists.{IsIn}
+use Rattle.protocol.specs.World.State.{World, first_world}
+use Rattle.protocol.specs.World.Events.{replay_from}
+use Rattle.protocol.specs.World.Committed.{committed_executions}
+use Rattle.protocol_plans.specs.Scripted.{Scripted, plan_of}
+use Rattle.law_safety.proofs.Agreed.{agreement}
+use Rattle.law_safety.proofs.Tried.{one_execution}
+use Rattle.protocol_plans.specs.SerialOutcome.{first_map, programs_of, map_of, IsSerial}
+use Rattle.law_serial.proofs.Serial.{serial_reads}
+use Rattle.world.specs.Rows.{rows_of, keys_of, sorted_keys}
+use Rattle.law_outcomes.specs.Outcome.{OutcomesAreSafe, OutcomesAreSerial}
+
+pub outcomes_are_safe : OutcomesAreSafe
+outcomes_are_safe p some events first rest split = record {
+  agreed = agreement p some first;
+  once = one_execution p some first;
+}
+
+-- a row of these keys has the value that the map holds
+at_keys : (m : List Entry) (ks : List Key) (v : ValueRow) → IsIn v (map (λ k. record { key = k; value = held m k }) ks) → v.value ≡ held m v.key
+at_keys m [] v there = absurd there
+at_keys m (k ∷ ks) v (inl e) = cc
+at_keys m (k ∷ ks) v (inr there) = at_keys m ks v there
+
+values_held : (s : Scripted) (w : World) → IsSerial s (committed_executions (plan_of s) w) → (v : ValueRow) → IsIn v (rows_of s w).values →
+    v.value ≡ held (last_map (first_map s.firsts) (programs_of s (committed_executions (plan_of s) w))) v.key
+unfolding rows_of
+values_held s w serial v there =
+    at_keys (map_of (first_map s.firsts) (committed_executions (plan_of s) w)) (sorted_keys (keys_of s (committed_executions (plan_of s) w))) v there
+    ∙ ap (λ (m : List Entry). held m v.key) serial.left
+
+pub outcomes_are_serial : OutcomesAreSerial
+outcomes_are_serial s some events =
+    let serial = serial_reads s some events in
+    record { serial = serial; values = values_held s (replay_from (plan_of s) first_world events) serial }

@@ -1,0 +1,15 @@
+pub mod Steps
+pub mod Waiting
+pub mod Calm
+pub mod Replicas
+pub mod Told
+pub mod Begun
+pub mod Messages
+pub mod Tallies
+pub mod Hearing
+pub mod Replies
+pub mod Stage
+pub mod Moving
+pub mod Begins
+pub mod Law
+pub mod Scripts

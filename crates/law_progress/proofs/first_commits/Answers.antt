@@ -1,0 +1,5 @@
+use Rattle.law_progress.proofs.Scripts as proved
+use Rattle.law_progress.proofs.first_commits.Goals as goal
+
+pub returns : goal.returns
+returns c = proved.first_commits

@@ -1,0 +1,184 @@
+use Rattle.std.proofs.Common.{◌≡◌, ℕ, ◌<◌, ◌≤◌, ◌≢◌, inl, inr, refl, sym, ◌∙◌, subst, false, List, [], ◌∷◌, ◌++◌, Option, Some, None, arith}
+use Rattle.std.specs.Prelude.{flat_map, zero, suc, map, ◌==◌}
+use Rattle.std.specs.List.{list_any}
+use Rattle.std.proofs.lemmas.Bool.Decides.{eqb_tells}
+use Rattle.protocol.specs.Words.{Exec, NodeId, Client, Replica, Envelope, Body, Content, Choice, Abandon, Prepare, Finalize, Decide}
+use Rattle.protocol.specs.Lists.{IsIn, upto}
+use Rattle.protocol.specs.Replica.Votes.{vote}
+use Rattle.protocol.specs.Replica.Acceptor.{acceptances, new_acceptance}
+use Rattle.protocol.specs.Client.State.{ClientState, Phase, CountedVote, Decision}
+use Rattle.protocol.specs.Client.Deciding.{content_for}
+use Rattle.protocol.specs.Client.State.Phase.{Between, Running, Prepared}
+use Rattle.protocol.specs.World.State.{Plan, World, rules}
+use Rattle.protocol.specs.World.Events.{to_all}
+use Rattle.protocol.proofs.ListsLemmas.{IsIn-left, IsIn-right, IsIn-cases, at_cases, map_in}
+use Rattle.protocol.proofs.DistinctLemmas.{distinct_more, distinct_map_more, absent}
+use Rattle.std.proofs.lemmas.List.{map-id}
+use Rattle.protocol.specs.Quorums.{HasNoRepeats}
+use Rattle.law_steps.proofs.Acts.{Act, IsRunning, SameStage}
+use Rattle.law_steps.proofs.Acts.Act.{Quiet, Advances, Prepares, Counts, Proposes, Accepts, Decides, Gives_up, Learns}
+use Rattle.law_steps.proofs.Reach.{Step, Reach, ClientActs, GotAt}
+use Rattle.law_steps.proofs.Reach.Step.{Stands, Client_acts, Replica_acts, Warden_acts}
+use Rattle.law_steps.proofs.Reach.From.{Begins, Next}
+use Rattle.law_steps.proofs.Facts.{RFact, AcceptedFact, facts_reach}
+use Rattle.protocol.specs.World.Decided.{WasSent}
+use Rattle.law_safety.proofs.Locks.{sent_grows, replica_grows, voted_grows}
+
+pub absent_id : (j : ℕ) (xs : List ℕ) → list_any (λ i. i == j) xs ≡ false → IsIn j xs → ⊥
+absent_id j xs e i = absent (λ z. z) j xs e (rw map-id i)
+
+-- what a prepared client has evidence of
+pub record Evidence (n : ℕ) (w : World) (x : Exec) (k : Content) (vs : List CountedVote) (o : Option Choice) (acs : List ℕ) : Type 0 where
+  pub prepare : WasSent w (Prepare x k)
+  pub ballot : (b : CountedVote) → IsIn b vs → ((0 < b.replica) × (b.replica ≤ n)) × (vote (w.replica b.replica) x ≡ Some b.vote)
+  pub voters : HasNoRepeats (map (λ (b : CountedVote). b.replica) vs)
+  pub accept : (j : ℕ) → IsIn j acs → ((0 < j) × (j ≤ n)) × AcceptedFact (w.replica j) x 0
+  pub accepters : HasNoRepeats acs
+  pub proposed : (d : Choice) → o ≡ Some d → WasSent w (Finalize x 0 d (content_for k d))
+
+pub record Evident (n : ℕ) (w : World) (s : ClientState) : Type 0 where
+  pub phase : (k : Content) (vs : List CountedVote) (o : Option Choice) (acs : List ℕ) → s.phase ≡ Prepared k vs o acs → Evidence n w s.exec k vs o acs
+
+pub accepted_fact_grows : (p : Plan) (w w' : World) → Step p w w' → (x : Exec) (v r : ℕ) → AcceptedFact (w.replica r) x v → AcceptedFact (w'.replica r) x v
+accepted_fact_grows p w w' s x v r f = replica_grows p w w' s (λ h. AcceptedFact h x v) (λ h m k. (k.0, IsIn-right k.0 (new_acceptance h m.body) (acceptances h) k.1, k.2, k.3)) r f
+
+evidence_grows : (p : Plan) (w w' : World) → Step p w w' → (x : Exec) (k : Content) (vs : List CountedVote) (o : Option Choice) (acs : List ℕ) → Evidence p.replicas w x k vs o acs → Evidence p.replicas w' x k vs o acs
+evidence_grows p w w' s x k vs o acs e = record {
+  prepare = sent_grows p w w' s _ e.prepare;
+  ballot = λ b i. let f = e.ballot b i in (f.0, voted_grows p w w' s x b.vote b.replica f.1);
+  voters = e.voters;
+  accept = λ j i. let f = e.accept j i in (f.0, accepted_fact_grows p w w' s x 0 j f.1);
+  accepters = e.accepters;
+  proposed = λ d f. sent_grows p w w' s _ (e.proposed d f);
+}
+
+-- a new state is evident in the new world, where the old one was in it, and what the act sent is there
+act_evident : (p : Plan) (w w' : World) → Reach p w → Step p w w' → (c : ℕ) (s : ClientState) (sent : List Body) → ((b : Body) → IsIn b sent → WasSent w' b) → Act (rules p c) (GotAt w c) (w.client c) s sent → Evident p.replicas w' (w.client c) → Evident p.replicas w' s
+act_evident p w w' q st c s sent new (Quiet e d g u) t = record { phase = λ k vs o acs h. rw e (t.phase k vs o acs (same (w.client c).phase g k vs o acs h)) }
+  where
+    same : (z : Phase) → SameStage z s.phase → (k : Content) (vs : List CountedVote) (o : Option Choice) (acs : List ℕ) → s.phase ≡ Prepared k vs o acs → z ≡ Prepared k vs o acs
+    same Between g k vs o acs h = cc
+    same (Running a b) g k vs o acs h = absurd (subst IsRunning h g)
+    same (Prepared k' v' o' a') g k vs o acs h = sym g ∙ h
+act_evident p w w' q st c s sent new (Advances u n l c' d r) t = record { phase = λ k vs o acs h. absurd (subst IsRunning h n) }
+act_evident p w w' q st c s sent new (Prepares k0 n e d f u) t = record { phase = λ k vs o acs h. go k vs o acs (sym h ∙ f) }
+  where
+    go : (k : Content) (vs : List CountedVote) (o : Option Choice) (acs : List ℕ) → Prepared k vs o acs ≡ Prepared k0 [] None [] → Evidence p.replicas w' s.exec k vs o acs
+    go k vs o acs z = let z1 : k ≡ k0 = cc in let z2 : vs ≡ [] = cc in let z3 : o ≡ None = cc in let z4 : acs ≡ [] = cc in rw (z1, z2, z3, z4) (record {
+      prepare = rw e (new (Prepare (w.client c).exec k0) (rw u (inl refl)));
+      ballot = λ b i. absurd i;
+      voters = tt;
+      accept = λ j i. absurd i;
+      accepters = tt;
+      proposed = λ d y. cc;
+    })
+act_evident p w w' q st c s sent new (Counts k0 vs0 ac0 j v a got range b e d f u) t = record { phase = λ k vs o acs h. go k vs o acs (sym h ∙ f) }
+  where
+    old : Evidence p.replicas w' (w.client c).exec k0 vs0 None ac0
+    old = t.phase k0 vs0 None ac0 a
+
+    heard : vote (w'.replica j) (w.client c).exec ≡ Some v
+    heard = voted_grows p w w' st _ v j (subst (RFact j (w.replica j)) got.4 ((facts_reach p w q).said got.0 j got.1 got.3))
+
+    go : (k : Content) (vs : List CountedVote) (o : Option Choice) (acs : List ℕ) → Prepared k vs o acs ≡ Prepared k0 (vs0 ++ record { replica = j; vote = v } ∷ []) None [] → Evidence p.replicas w' s.exec k vs o acs
+    go k vs o acs z = let z1 : k ≡ k0 = cc in let z2 : vs ≡ vs0 ++ record { replica = j; vote = v } ∷ [] = cc in let z3 : o ≡ None = cc in let z4 : acs ≡ [] = cc in rw (z1, z2, z3, z4, e) (record {
+      prepare = old.prepare;
+      ballot = λ x i. elim (IsIn-cases x vs0 (record { replica = j; vote = v } ∷ []) i) [ inl m ↦ old.ballot x m | inr m ↦ elim m [ inl y ↦ rw y (range, heard) | inr y ↦ absurd y ] ];
+      voters = distinct_map_more (λ (x : CountedVote). x.replica) vs0 (record { replica = j; vote = v }) old.voters b;
+      accept = λ i m. absurd m;
+      accepters = tt;
+      proposed = λ d y. cc;
+    })
+act_evident p w w' q st c s sent new (Proposes k0 vs0 ac0 d0 a m e d f u) t = record { phase = λ k vs o acs h. go k vs o acs (sym h ∙ f) }
+  where
+    go : (k : Content) (vs : List CountedVote) (o : Option Choice) (acs : List ℕ) → Prepared k vs o acs ≡ Prepared k0 vs0 (Some d0) [] → Evidence p.replicas w' s.exec k vs o acs
+    go k vs o acs z = let old = t.phase k0 vs0 None ac0 a in let z1 : k ≡ k0 = cc in let z2 : vs ≡ vs0 = cc in let z3 : o ≡ Some d0 = cc in let z4 : acs ≡ [] = cc in rw (z1, z2, z3, z4, e) (record {
+      prepare = old.prepare;
+      ballot = old.ballot;
+      voters = old.voters;
+      accept = λ i n. absurd n;
+      accepters = tt;
+      proposed = λ g y. let y1 : d0 ≡ g = cc in rw (← y1) (new (Finalize (w.client c).exec 0 d0 (content_for k0 d0)) (rw u (inl refl)));
+    })
+act_evident p w w' q st c s sent new (Accepts k0 vs0 d0 ac0 j a got range b e d f u) t = record { phase = λ k vs o acs h. go k vs o acs (sym h ∙ f) }
+  where
+    heard : AcceptedFact (w'.replica j) (w.client c).exec 0
+    heard = accepted_fact_grows p w w' st _ 0 j (subst (RFact j (w.replica j)) got.4 ((facts_reach p w q).said got.0 j got.1 got.3))
+
+    go : (k : Content) (vs : List CountedVote) (o : Option Choice) (acs : List ℕ) → Prepared k vs o acs ≡ Prepared k0 vs0 (Some d0) (ac0 ++ j ∷ []) → Evidence p.replicas w' s.exec k vs o acs
+    go k vs o acs z = let old = t.phase k0 vs0 (Some d0) ac0 a in let z1 : k ≡ k0 = cc in let z2 : vs ≡ vs0 = cc in let z3 : o ≡ Some d0 = cc in let z4 : acs ≡ ac0 ++ j ∷ [] = cc in rw (z1, z2, z3, z4, e) (record {
+      prepare = old.prepare;
+      ballot = old.ballot;
+      voters = old.voters;
+      accept = λ x i. elim (IsIn-cases x ac0 (j ∷ []) i) [ inl m ↦ old.accept x m | inr m ↦ elim m [ inl y ↦ rw y (range, heard) | inr y ↦ absurd y ] ];
+      accepters = distinct_more ac0 j old.accepters (absent_id j ac0 b);
+      proposed = old.proposed;
+    })
+act_evident p w w' q st c s sent new (Decides k0 vs0 o0 ac0 d0 a m e d f u) t = record { phase = λ k vs o acs h. cc }
+act_evident p w w' q st c s sent new (Gives_up n e d f u) t = record { phase = λ k vs o acs h. cc }
+act_evident p w w' q st c s sent new (Learns j d0 k0 n got e d f u) t = record { phase = λ k vs o acs h. cc }
+
+evident_grows : (p : Plan) (w w' : World) → Step p w w' → (s : ClientState) → Evident p.replicas w s → Evident p.replicas w' s
+evident_grows p w w' st s t = record { phase = λ k vs o acs h. evidence_grows p w w' st s.exec k vs o acs (t.phase k vs o acs h) }
+
+-- each of the numbers 1 to n
+pub upto_in : (n r : ℕ) → 0 < r → r ≤ n → IsIn r (upto n)
+upto_in zero r a b = absurd (omega arith)
+upto_in (suc n) r a b = elim (eqb_tells r (suc n)) [
+  | inl e ↦ IsIn-right r (upto n) (suc n ∷ []) (inl e.1)
+  | inr e ↦ (let f : r ≢ suc n = e.1 in IsIn-left r (upto n) (suc n ∷ []) (upto_in n r a (omega arith)))
+]
+
+to_all_one : (n : ℕ) (from : NodeId) (bs : List Body) (b : Body) → 0 < n → IsIn b bs → (e : Envelope) × IsIn e (flat_map (to_all n from) bs) × (e.body ≡ b)
+to_all_one n from [] b l i = absurd i
+to_all_one n from (c ∷ bs) b l (inl e) = (record { from = from; to = Replica 1; body = c }, IsIn-left _ (to_all n from c) _ (map_in (λ r. record { from = from; to = Replica r; body = c }) (upto n) 1 (upto_in n 1 (omega arith) (omega (arith, l)))), sym e)
+to_all_one n from (c ∷ bs) b l (inr i) = let k = to_all_one n from bs b l i in (k.0, IsIn-right k.0 (to_all n from c) _ k.1, k.2)
+
+-- what an act sends is in the mail
+act_sent : (p : Plan) (w w' : World) (s : ClientActs p w w') → 0 < p.replicas → (b : Body) → IsIn b s.sent → WasSent w' b
+act_sent p w w' s pos b i = let k = to_all_one p.replicas (Client s.c) s.sent b pos i in record { envelope = k.0; there = rw s.mail (IsIn-right k.0 w.mail _ k.1); body = k.2 }
+
+pub evident_reach : (p : Plan) → 0 < p.replicas → (w : World) → Reach p w → (c : ℕ) → Evident p.replicas w (w.client c)
+evident_reach p pos _ Begins c = record { phase = λ k vs o acs h. cc }
+evident_reach p pos _ (Next w w' q (Stands s)) c = subst (λ (f : ℕ → ClientState). Evident p.replicas w' (f c)) (sym s.client) (evident_grows p w w' (Stands s) (w.client c) (evident_reach p pos w q c))
+evident_reach p pos _ (Next w w' q (Replica_acts s)) c = subst (λ (f : ℕ → ClientState). Evident p.replicas w' (f c)) (sym s.client) (evident_grows p w w' (Replica_acts s) (w.client c) (evident_reach p pos w q c))
+evident_reach p pos _ (Next w w' q (Warden_acts s)) c = subst (λ (f : ℕ → ClientState). Evident p.replicas w' (f c)) (sym s.client) (evident_grows p w w' (Warden_acts s) (w.client c) (evident_reach p pos w q c))
+evident_reach p pos _ (Next w w' q (Client_acts s)) c = subst (λ (f : ℕ → ClientState). Evident p.replicas w' (f c)) (sym s.client) (at_cases (Evident p.replicas w') s.c s.state w.client c
+    (λ e. act_evident p w w' q (Client_acts s) s.c s.state s.sent (act_sent p w w' s pos) s.act (evident_grows p w w' (Client_acts s) (w.client s.c) (evident_reach p pos w q s.c)))
+    (evident_grows p w w' (Client_acts s) (w.client c) (evident_reach p pos w q c)))
+
+-- a client's decision was sent
+pub record DecisionsSent (w : World) (s : ClientState) : Type 0 where
+  pub sent : (d : Decision) → IsIn d s.decisions → (o : Option Content) × WasSent w (Decide d.exec d.choice o)
+
+decisions_grow : (p : Plan) (w w' : World) → Step p w w' → (s : ClientState) → DecisionsSent w s → DecisionsSent w' s
+decisions_grow p w w' st s t = record { sent = λ d i. let k = t.sent d i in (k.0, sent_grows p w w' st _ k.1) }
+
+act_decisions : (p : Plan) (w w' : World) → Step p w w' → (c : ℕ) (s : ClientState) (sent : List Body) → ((b : Body) → IsIn b sent → WasSent w' b) → Act (rules p c) (GotAt w c) (w.client c) s sent → DecisionsSent w' (w.client c) → DecisionsSent w' s
+act_decisions p w w' st c s sent new a t = go a
+  where
+    same : s.decisions ≡ (w.client c).decisions → DecisionsSent w' s
+    same e = record { sent = λ d i. t.sent d (rw (← e) i) }
+
+    more : (n : Decision) → s.decisions ≡ n ∷ (w.client c).decisions → (o : Option Content) → WasSent w' (Decide n.exec n.choice o) → DecisionsSent w' s
+    more n e o f = record { sent = λ d i. elim (rw e at i) [ inl z ↦ rw z (o, f) | inr j ↦ t.sent d j ] }
+
+    go : Act (rules p c) (GotAt w c) (w.client c) s sent → DecisionsSent w' s
+    go (Quiet e d g u) = same d
+    go (Advances u n l c' d r) = same d
+    go (Prepares k0 n e d f u) = same d
+    go (Counts k0 vs0 ac0 j v a got range b e d f u) = same d
+    go (Proposes k0 vs0 ac0 d0 a m e d f u) = same d
+    go (Accepts k0 vs0 d0 ac0 j a got range b e d f u) = same d
+    go (Decides k0 vs0 o0 ac0 d0 a m e d f u) = more (record { exec = (w.client c).exec; choice = d0 }) d (content_for k0 d0) (new (Decide (w.client c).exec d0 (content_for k0 d0)) (rw u (inl refl)))
+    go (Gives_up n e d f u) = more (record { exec = (w.client c).exec; choice = Abandon }) d None (new (Decide (w.client c).exec Abandon None) (rw u (inl refl)))
+    go (Learns j d0 k0 n got e d f u) = more (record { exec = (w.client c).exec; choice = d0 }) d k0 (sent_grows p w w' st _ (record { envelope = got.0; there = got.1; body = got.4 }))
+
+pub decisions_reach : (p : Plan) → 0 < p.replicas → (w : World) → Reach p w → (c : ℕ) → DecisionsSent w (w.client c)
+decisions_reach p pos _ Begins c = record { sent = λ d i. absurd i }
+decisions_reach p pos _ (Next w w' q (Stands s)) c = subst (λ (f : ℕ → ClientState). DecisionsSent w' (f c)) (sym s.client) (decisions_grow p w w' (Stands s) (w.client c) (decisions_reach p pos w q c))
+decisions_reach p pos _ (Next w w' q (Replica_acts s)) c = subst (λ (f : ℕ → ClientState). DecisionsSent w' (f c)) (sym s.client) (decisions_grow p w w' (Replica_acts s) (w.client c) (decisions_reach p pos w q c))
+decisions_reach p pos _ (Next w w' q (Warden_acts s)) c = subst (λ (f : ℕ → ClientState). DecisionsSent w' (f c)) (sym s.client) (decisions_grow p w w' (Warden_acts s) (w.client c) (decisions_reach p pos w q c))
+decisions_reach p pos _ (Next w w' q (Client_acts s)) c = subst (λ (f : ℕ → ClientState). DecisionsSent w' (f c)) (sym s.client) (at_cases (DecisionsSent w') s.c s.state w.client c
+    (λ e. act_decisions p w w' (Client_acts s) s.c s.state s.sent (act_sent p w w' s pos) s.act (decisions_grow p w w' (Client_acts s) (w.client s.c) (decisions_reach p pos w q s.c)))
+    (decisions_grow p w w' (Client_acts s) (w.client c) (decisions_reach p pos w q c)))

@@ -1,0 +1,5 @@
+use Rattle.law_safety.proofs.Agreed as proved
+use Rattle.law_safety.proofs.agreement.Goals as goal
+
+pub returns : goal.returns
+returns c = proved.agreement

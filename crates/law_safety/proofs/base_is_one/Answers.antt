@@ -1,0 +1,5 @@
+use Rattle.law_safety.proofs.Unique as proved
+use Rattle.law_safety.proofs.base_is_one.Goals as goal
+
+pub returns : goal.returns
+returns c = proved.base_is_one

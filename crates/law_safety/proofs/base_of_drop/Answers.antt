@@ -1,0 +1,5 @@
+use Rattle.law_safety.proofs.Listed as proved
+use Rattle.law_safety.proofs.base_of_drop.Goals as goal
+
+pub returns : goal.returns
+returns c = proved.base_of_drop

@@ -1,0 +1,5 @@
+use Rattle.law_safety.proofs.Listed as proved
+use Rattle.law_safety.proofs.committed_list.Goals as goal
+
+pub returns : goal.returns
+returns c = proved.committed_list

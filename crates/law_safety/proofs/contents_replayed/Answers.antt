@@ -1,0 +1,5 @@
+use Rattle.law_safety.proofs.Replayed as proved
+use Rattle.law_safety.proofs.contents_replayed.Goals as goal
+
+pub returns : goal.returns
+returns c = proved.contents_replayed

@@ -1,0 +1,5 @@
+use Rattle.law_safety.proofs.Settled as proved
+use Rattle.law_safety.proofs.decisions_stay.Goals as goal
+
+pub returns : goal.returns
+returns c = proved.decisions_stay

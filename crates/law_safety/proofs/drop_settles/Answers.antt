@@ -1,0 +1,5 @@
+use Rattle.law_safety.proofs.Based as proved
+use Rattle.law_safety.proofs.drop_settles.Goals as goal
+
+pub returns : goal.returns
+returns c = proved.drop_settles

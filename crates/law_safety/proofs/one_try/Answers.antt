@@ -1,0 +1,5 @@
+use Rattle.law_safety.proofs.Tried as proved
+use Rattle.law_safety.proofs.one_try.Goals as goal
+
+pub returns : goal.returns
+returns c = proved.one_try

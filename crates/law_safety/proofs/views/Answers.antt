@@ -1,0 +1,5 @@
+use Rattle.law_safety.proofs.Invariants as proved
+use Rattle.law_safety.proofs.views.Goals as goal
+
+pub returns : goal.returns
+returns c = proved.views

@@ -1,0 +1,7 @@
+pub mod Locks
+pub mod Agreement
+pub mod Tries
+pub mod Bases
+pub mod Outcome
+pub mod Invariants
+pub mod Replays

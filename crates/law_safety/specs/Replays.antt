@@ -1,0 +1,27 @@
+-- What was prepared is what a program does on its answers.
+use Rattle.std.specs.Prelude.{◌≡◌, ◌-◌, cond, List, [], Some}
+use Rattle.std.specs.List.{slice_get}
+use Rattle.protocol.specs.Words.{Exec, Ending, Content, Prepare, Event}
+use Rattle.protocol.specs.Client.State.{Attempt, Answer, values, walk_at, reads_of, is_done}
+use Rattle.protocol.specs.World.State.{Plan, World, rules, first_world}
+use Rattle.protocol.specs.World.Events.{replay_from}
+use Rattle.protocol.specs.World.Decided.{WasSent, IsOf}
+
+-- the content is what the program of an attempt does on these answers, which end it
+pub record IsReplay (p : Plan) (x : Exec) (a : Attempt) (k : Content) : Type 0 where
+  pub answers : List Answer
+  pub ending : Ending
+  pub ends : (walk_at (slice_get (rules p x.ver.client).txns (a.txn - 1)) (values answers)).ending ≡ Some ending
+  pub reads : k.reads ≡ reads_of (walk_at (slice_get (rules p x.ver.client).txns (a.txn - 1)) (values answers)).keys answers
+  pub writes : k.writes ≡ cond (is_done ending) (walk_at (slice_get (rules p x.ver.client).txns (a.txn - 1)) (values answers)).writes []
+  pub out : k.out ≡ (walk_at (slice_get (rules p x.ver.client).txns (a.txn - 1)) (values answers)).out
+  pub ended : k.ending ≡ ending
+
+-- the execution is one of an attempt, and its content a replay of the program of that attempt
+abbrev pub HasReplay : Plan → World → Exec → Content → Type 0
+HasReplay p w x k = (a : Attempt) × IsOf w x a × IsReplay p x a k
+
+-- each content that was prepared is a replay of the program of its attempt
+abbrev pub ContentsReplayed : Type 0
+ContentsReplayed = (p : Plan) (events : List Event) (x : Exec) (k : Content) →
+    WasSent (replay_from p first_world events) (Prepare x k) → HasReplay p (replay_from p first_world events) x k

@@ -1,0 +1,10 @@
+pub mod Read
+pub mod Labels
+pub mod Following
+pub mod Noted
+pub mod Between
+pub mod Fronts
+pub mod Current
+pub mod Lookups
+pub mod Serial
+pub mod Truncated

@@ -1,0 +1,5 @@
+use Rattle.law_serial.proofs.Between as proved
+use Rattle.law_serial.proofs.nothing_between.Goals as goal
+
+pub returns : goal.returns
+returns c = proved.nothing_between

@@ -1,0 +1,5 @@
+use Rattle.law_serial.proofs.Fronts as proved
+use Rattle.law_serial.proofs.puts_are_fronts.Goals as goal
+
+pub returns : goal.returns
+returns c = proved.puts_are_fronts

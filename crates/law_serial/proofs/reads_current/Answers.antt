@@ -1,0 +1,5 @@
+use Rattle.law_serial.proofs.Current as proved
+use Rattle.law_serial.proofs.reads_current.Goals as goal
+
+pub returns : goal.returns
+returns c = proved.reads_current

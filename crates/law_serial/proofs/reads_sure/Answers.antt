@@ -1,0 +1,5 @@
+use Rattle.law_serial.proofs.Noted as proved
+use Rattle.law_serial.proofs.reads_sure.Goals as goal
+
+pub returns : goal.returns
+returns c = proved.reads_sure

@@ -1,0 +1,5 @@
+use Rattle.law_serial.proofs.Read as proved
+use Rattle.law_serial.proofs.sure_notes.Goals as goal
+
+pub returns : goal.returns
+returns c = proved.sure_notes

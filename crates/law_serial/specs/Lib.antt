@@ -1,0 +1,4 @@
+pub mod Fronts
+pub mod Reads
+pub mod Programs
+pub mod Serial

@@ -1,0 +1,56 @@
+//! What executions read, toward the law that committed reads are those of a serial run.
+//!
+//! A Note tells a first value, the last write of a committed execution, or a write of a Puts, and only the last may be
+//! unsure, since what a replica holds comes from a commit, a base or a Puts (`Read`). A client's answers were told by
+//! Notes, and it prepares only once each is sure, so each read of a prepared content names a first value or a committed
+//! last write (`Labels`, `Following`, `Noted`). Its value may have come from a Puts of that execution. But what an
+//! execution puts are the first of the writes that it prepares (`Fronts`), so the value is that of the write that the read
+//! names (`Current`). And nothing committed lies between a read and its reader, since it would be in conflict with the
+//! reader (`Between`). Each content that was prepared is a replay of its program (`Replayed`).
+#![tactic(auto)]
+
+ghost use Rattle.law_serial.specs.Fronts.{PutsAreFronts};
+ghost use Rattle.law_serial.specs.Reads.{SureNotes, NothingBetween};
+ghost use Rattle.law_serial.specs.Programs.{ReadsNoted, ReadsSure, ReadsCurrent};
+ghost use Rattle.law_serial.specs.Serial.{SerialReads, SerialBase};
+
+/// What a Note calls sure is a first value, or the last write of its key in a committed execution, below the reader.
+pub fn sure_notes()
+    ensures { SureNotes }
+{}
+
+/// Between the write that a committed execution read and the execution itself nothing committed writes the key.
+pub fn nothing_between()
+    ensures { NothingBetween }
+{}
+
+/// Each read of a prepared content was told by a Note, and its write name was called sure by one.
+pub fn reads_noted()
+    ensures { ReadsNoted }
+{}
+
+/// The write name of each read of a prepared content is that of a first value or of a committed last write, below it.
+pub fn reads_sure()
+    ensures { ReadsSure }
+{}
+
+/// The writes that an execution puts are the first of those that it prepares; where its ending is not Done, it keeps none.
+pub fn puts_are_fronts()
+    ensures { PutsAreFronts }
+{}
+
+/// Each read of a prepared content has the value of the write that it names.
+pub fn reads_current()
+    ensures { ReadsCurrent }
+{}
+
+/// The committed executions by rising version read, printed, wrote and ended as the serial run of their programs does,
+/// and their writes leave its map.
+pub fn serial_reads()
+    ensures { SerialReads }
+{}
+
+/// The base of a world at a version has the values of the map that the serial run up to that version leaves.
+pub fn serial_base()
+    ensures { SerialBase }
+{}

@@ -1,0 +1,216 @@
+use Rattle.std.proofs.Common.{◌≡◌, ℕ, ◌⊎◌, inl, inr, refl, sym, subst, List, [], ◌∷◌, Option, Some, None, arith}
+use Rattle.protocol.specs.Words.{Exec, NodeId, Body, Content, Choice, Abandon, Get, Puts, Prepare, Finalize, Decide}
+use Rattle.protocol.specs.Lists.{IsIn}
+use Rattle.protocol.specs.Client.State.{Rules, ClientState, Phase, CountedVote, Decision}
+use Rattle.protocol.specs.Client.Deciding.{content_for}
+use Rattle.protocol.specs.Client.State.Phase.{Between, Running, Prepared}
+use Rattle.protocol.specs.World.State.{Plan, World, rules}
+use Rattle.law_steps.specs.Executions.{Over, IsEarlier}
+use Rattle.law_steps.proofs.Phases.{running_under_way, prepared_under_way}
+use Rattle.law_steps.proofs.Acts.{Act, IsQuiet, AllQuiet, IsRunning, IsUnprepared, IsUnderWay, SameStage, WasBegun}
+use Rattle.law_steps.proofs.Acts.Act.{Quiet, Advances, Prepares, Counts, Proposes, Accepts, Decides, Gives_up, Learns}
+use Rattle.law_steps.proofs.Reach.{Reach, GotAt}
+use Rattle.law_steps.proofs.Provenance.{ClientsSaid, clients_said_reach, clients_reach}
+
+abbrev pub HasPrepared : Content → Phase → Type 0
+HasPrepared k (Prepared l v o a) = k ≡ l
+HasPrepared k _ = ⊥
+
+abbrev pub HasProposed : Choice → Option Content → Phase → Type 0
+HasProposed d o (Prepared l v (Some e) a) = (d ≡ e) × (o ≡ content_for l d)
+HasProposed d o _ = ⊥
+
+abbrev pub At : (Phase → Type 0) → Exec → ClientState → Type 0
+At P x s = Over x s ⊎ ((x ≡ s.exec) × P s.phase)
+
+not_between : (p : Phase) → IsRunning p → p ≡ Between → ⊥
+not_between Between r e = r
+not_between (Running a b) r e = cc
+not_between (Prepared k v o a) r e = cc
+
+under_way_not : (p : Phase) → IsUnderWay p → p ≡ Between → ⊥
+under_way_not Between r e = r
+under_way_not (Running a b) r e = cc
+under_way_not (Prepared k v o a) r e = cc
+
+-- what is over stays over
+over_same : (x : Exec) (s s' : ClientState) → s'.exec ≡ s.exec → (s.phase ≡ Between → s'.phase ≡ Between) → Over x s → Over x s'
+over_same x s s' e f (inl h) = inl (rw e h)
+over_same x s s' e f (inr h) = inr (rw e h.0, f h.1)
+
+pub earlier_trans : (x y z : Exec) → IsEarlier x y → IsEarlier y z → IsEarlier x z
+earlier_trans x y z p q = grind arith
+
+stage_between : (p q : Phase) → SameStage p q → p ≡ Between → q ≡ Between
+stage_between Between q s e = s
+stage_between (Running a b) q s e = cc
+stage_between (Prepared k v o a) q s e = cc
+
+-- an act leaves the execution, or begins a later one
+pub act_exec : (r : Rules) (Got : NodeId → Body → Type 0) (s s' : ClientState) (sent : List Body) → Act r Got s s' sent → (s'.exec ≡ s.exec) ⊎ IsEarlier s.exec s'.exec
+act_exec r Got s s' sent (Quiet e d g q) = inl e
+act_exec r Got s s' sent (Advances u n l c d q) = inr l
+act_exec r Got s s' sent (Prepares k n e d f q) = inl e
+act_exec r Got s s' sent (Counts k vs acs j v a got b c e d f q) = inl e
+act_exec r Got s s' sent (Proposes k vs acs d0 a b e d f q) = inl e
+act_exec r Got s s' sent (Accepts k vs d0 acs j a got b c e d f q) = inl e
+act_exec r Got s s' sent (Decides k vs o' acs d0 a w e d f q) = inl e
+act_exec r Got s s' sent (Gives_up n e d f q) = inl e
+act_exec r Got s s' sent (Learns j d0 k n got e d f q) = inl e
+
+module _ (r : Rules) (Got : NodeId → Body → Type 0) (s s' : ClientState) (sent : List Body) where
+  pub act_over : Act r Got s s' sent → (x : Exec) → Over x s → Over x s'
+  act_over (Quiet e d g q) x o = over_same x s s' e (stage_between s.phase s'.phase g) o
+  act_over (Advances u n l c d q) x (inl h) = inl (earlier_trans x s.exec s'.exec h l)
+  act_over (Advances u n l c d q) x (inr h) = inl (rw h.0 l)
+  act_over (Prepares k n e d f q) x o = over_same x s s' e (λ b. absurd (not_between s.phase n b)) o
+  act_over (Counts k vs acs j v a got b c e d f q) x o = over_same x s s' e (λ b. cc) o
+  act_over (Proposes k vs acs d0 a b e d f q) x o = over_same x s s' e (λ b. cc) o
+  act_over (Accepts k vs d0 acs j a got b c e d f q) x o = over_same x s s' e (λ b. cc) o
+  act_over (Decides k vs o' acs d0 a w e d f q) x o = over_same x s s' e (λ b. f) o
+  act_over (Gives_up n e d f q) x o = over_same x s s' e (λ b. f) o
+  act_over (Learns j d0 k n got e d f q) x o = over_same x s s' e (λ b. f) o
+
+  -- what a prepared client keeps until it is over
+  pub act_at : (P : Phase → Type 0) → ((p : Phase) → IsUnprepared p → P p → ⊥) → ((k : Content) (vs ws : List CountedVote) (o o' : Option Choice) (acs acs' : List ℕ) → (o ≡ None ⊎ o ≡ o') → P (Prepared k vs o acs) → P (Prepared k ws o' acs'))
+      → Act r Got s s' sent → (x : Exec) → At P x s → At P x s'
+  act_at P none more a x (inl o) = inl (act_over a x o)
+  act_at P none more (Quiet e d g q) x (inr h) = go s.phase refl g h.1
+    where
+      go : (p : Phase) → s.phase ≡ p → SameStage p s'.phase → P p → At P x s'
+      go Between f g h' = absurd (none Between tt h')
+      go (Running a b) f g h' = absurd (none (Running a b) tt h')
+      go (Prepared k v o a) f g h' = inr (rw e h.0, subst P (sym g) h')
+  act_at P none more (Advances u n l c d q) x (inr h) = absurd (none s.phase u h.1)
+  act_at P none more (Prepares k n e d f q) x (inr h) = absurd (none s.phase (running_un s.phase n) h.1)
+    where
+      running_un : (p : Phase) → IsRunning p → IsUnprepared p
+      running_un Between h = absurd h
+      running_un (Running p g) h = tt
+      running_un (Prepared k v o a) h = absurd h
+  act_at P none more (Counts k vs acs j v a got b c e d f q) x (inr h) = inr (rw e h.0, subst P (sym f) (more k vs _ None None acs [] (inl refl) (subst P a h.1)))
+  act_at P none more (Proposes k vs acs d0 a b e d f q) x (inr h) = inr (rw e h.0, subst P (sym f) (more k vs vs None (Some d0) acs [] (inl refl) (subst P a h.1)))
+  act_at P none more (Accepts k vs d0 acs j a got b c e d f q) x (inr h) = inr (rw e h.0, subst P (sym f) (more k vs vs (Some d0) (Some d0) acs _ (inr refl) (subst P a h.1)))
+  act_at P none more (Decides k vs o' acs d0 a w e d f q) x (inr h) = inl (inr (rw e h.0, f))
+  act_at P none more (Gives_up n e d f q) x (inr h) = inl (inr (rw e h.0, f))
+  act_at P none more (Learns j d0 k n got e d f q) x (inr h) = inl (inr (rw e h.0, f))
+
+-- what a client sent
+abbrev pub CFact : ℕ → ClientState → Body → Type 0
+CFact c s (Prepare x k) = (x.ver.client ≡ c) × At (HasPrepared k) x s
+CFact c s (Finalize x v d o) = (v ≡ 0) × (x.ver.client ≡ c) × At (HasProposed d o) x s
+CFact c s (Decide x d o) = IsIn (record { exec = x; choice = d }) s.decisions
+CFact c s (Get x k) = Unit {0}
+CFact c s (Puts x k) = Unit {0}
+CFact c s _ = ⊥
+
+-- what a client's record says of its executions
+pub record CRec (c : ℕ) (s : ClientState) : Type 0 where
+  pub own : IsUnderWay s.phase → s.exec.ver.client ≡ c
+  pub done : (d : Decision) → IsIn d s.decisions → (d.exec.ver.client ≡ c) × Over d.exec s
+
+prepared_none : (k : Content) (p : Phase) → IsUnprepared p → HasPrepared k p → ⊥
+prepared_none k Between u h = h
+prepared_none k (Running a b) u h = h
+prepared_none k (Prepared l v o a) u h = u
+
+proposed_none : (d : Choice) (o : Option Content) (p : Phase) → IsUnprepared p → HasProposed d o p → ⊥
+proposed_none d o Between u h = h
+proposed_none d o (Running a b) u h = h
+proposed_none d o (Prepared l v q a) u h = u
+
+proposed_more : (d : Choice) (k' : Option Content) (k : Content) (vs ws : List CountedVote) (o o' : Option Choice) (acs acs' : List ℕ) → (o ≡ None ⊎ o ≡ o') → HasProposed d k' (Prepared k vs o acs) → HasProposed d k' (Prepared k ws o' acs')
+proposed_more d k' k vs ws None o' acs acs' e h = absurd h
+proposed_more d k' k vs ws (Some e') o' acs acs' (inl e) h = cc
+proposed_more d k' k vs ws (Some e') o' acs acs' (inr e) h = rw (← e) h
+
+stage_under_way : (p q : Phase) → SameStage p q → IsUnderWay q → IsUnderWay p
+stage_under_way Between q s u = absurd (under_way_not q u s)
+stage_under_way (Running a b) q s u = tt
+stage_under_way (Prepared k v o a) q s u = tt
+
+module _ (r : Rules) (Got : NodeId → Body → Type 0) (s s' : ClientState) (sent : List Body) where
+  own_same : CRec r.client s → IsUnderWay s.phase → s'.exec ≡ s.exec → s'.exec.ver.client ≡ r.client
+  own_same t u e = rw e (t.own u)
+
+  decided_old : CRec r.client s → Act r Got s s' sent → s'.decisions ≡ s.decisions → (d : Decision) → IsIn d s'.decisions → (d.exec.ver.client ≡ r.client) × Over d.exec s'
+  decided_old t a e d i = let k = t.done d (rw (← e) i) in (k.0, act_over r Got s s' sent a d.exec k.1)
+
+  decided_new : CRec r.client s → Act r Got s s' sent → IsUnderWay s.phase → s'.exec ≡ s.exec → s'.phase ≡ Between → (n : Choice) → s'.decisions ≡ record { exec = s.exec; choice = n } ∷ s.decisions → (d : Decision) → IsIn d s'.decisions → (d.exec.ver.client ≡ r.client) × Over d.exec s'
+  decided_new t a u e f n q d i = go (rw q at i)
+    where
+      go : (d ≡ record { exec = s.exec; choice = n }) ⊎ IsIn d s.decisions → (d.exec.ver.client ≡ r.client) × Over d.exec s'
+      go (inl z) = (rw z (t.own u), inr (rw z (sym e), f))
+      go (inr i) = let k = t.done d i in (k.0, act_over r Got s s' sent a d.exec k.1)
+
+  pub act_rec : Act r Got s s' sent → CRec r.client s → CRec r.client s'
+  act_rec (Quiet e d g q) t = record { own = λ u. own_same t (stage_under_way s.phase s'.phase g u) e; done = decided_old t (Quiet e d g q) d }
+  act_rec (Advances u n l c d q) t = record { own = λ v. go c; done = decided_old t (Advances u n l c d q) d }
+    where
+      go : (s'.exec.ver.client ≡ r.client) ⊎ ((s'.exec.ver ≡ s.exec.ver) × WasBegun s) → s'.exec.ver.client ≡ r.client
+      go (inl f) = f
+      go (inr (f, inl u)) = rw f (t.own u)
+      go (inr (f, inr d)) = rw (f, ← d.2) (t.done d.0 d.1).0
+  act_rec (Prepares k n e d f q) t = record { own = λ u. own_same t (running_under_way s.phase n) e; done = decided_old t (Prepares k n e d f q) d }
+  act_rec (Counts k vs acs j v a got b c e d f q) t = record { own = λ u. own_same t (prepared_under_way _ _ _ _ _ a) e; done = decided_old t (Counts k vs acs j v a got b c e d f q) d }
+  act_rec (Proposes k vs acs d0 a b e d f q) t = record { own = λ u. own_same t (prepared_under_way _ _ _ _ _ a) e; done = decided_old t (Proposes k vs acs d0 a b e d f q) d }
+  act_rec (Accepts k vs d0 acs j a got b c e d f q) t = record { own = λ u. own_same t (prepared_under_way _ _ _ _ _ a) e; done = decided_old t (Accepts k vs d0 acs j a got b c e d f q) d }
+  act_rec (Decides k vs o' acs d0 a w e d f q) t = record { own = λ u. own_same t (prepared_under_way _ _ _ _ _ a) e; done = decided_new t (Decides k vs o' acs d0 a w e d f q) (prepared_under_way _ _ _ _ _ a) e f d0 d }
+  act_rec (Gives_up n e d f q) t = record { own = λ u. own_same t (running_under_way s.phase n) e; done = decided_new t (Gives_up n e d f q) (running_under_way s.phase n) e f Abandon d }
+  act_rec (Learns j d0 k n got e d f q) t = record { own = λ u. own_same t n e; done = decided_new t (Learns j d0 k n got e d f q) n e f d0 d }
+
+  decisions_grow : Act r Got s s' sent → (d : Decision) → IsIn d s.decisions → IsIn d s'.decisions
+  decisions_grow (Quiet e d g q) z i = rw d i
+  decisions_grow (Advances u n l c d q) z i = rw d i
+  decisions_grow (Prepares k n e d f q) z i = rw d i
+  decisions_grow (Counts k vs acs j v a got b c e d f q) z i = rw d i
+  decisions_grow (Proposes k vs acs d0 a b e d f q) z i = rw d i
+  decisions_grow (Accepts k vs d0 acs j a got b c e d f q) z i = rw d i
+  decisions_grow (Decides k vs o' acs d0 a w e d f q) z i = rw d (inr i)
+  decisions_grow (Gives_up n e d f q) z i = rw d (inr i)
+  decisions_grow (Learns j d0 k n got e d f q) z i = rw d (inr i)
+
+  pub said_stays : Act r Got s s' sent → (b : Body) → CFact r.client s b → CFact r.client s' b
+  said_stays a (Prepare x k) f = (f.0, act_at r Got s s' sent (HasPrepared k) (prepared_none k) (λ l vs ws o o' acs acs' e h. h) a x f.1)
+  said_stays a (Finalize x v d o) f = (f.0, f.1, act_at r Got s s' sent (HasProposed d o) (proposed_none d o) (proposed_more d o) a x f.2)
+  said_stays a (Decide x d o) f = decisions_grow a _ f
+  said_stays a (Get x k) f = tt
+  said_stays a (Puts x k) f = tt
+  said_stays a _ f = absurd f
+
+  quiet_said : (bs : List Body) → AllQuiet bs → (b : Body) → IsIn b bs → CFact r.client s' b
+  quiet_said [] q b i = absurd i
+  quiet_said (x ∷ xs) q b (inl e) = rw e (go x q.0)
+    where
+      go : (x : Body) → IsQuiet x → CFact r.client s' x
+      go (Get x k) q = tt
+      go (Puts x k) q = tt
+      go _ q = absurd q
+  quiet_said (x ∷ xs) q b (inr i) = quiet_said xs q.1 b i
+
+  only : (c : Body) → sent ≡ c ∷ [] → CFact r.client s' c → (b : Body) → IsIn b sent → CFact r.client s' b
+  only c e f b i = go (rw e at i)
+    where
+      go : (b ≡ c) ⊎ ⊥ → CFact r.client s' b
+      go (inl z) = rw z f
+      go (inr z) = absurd z
+
+  none_sent : sent ≡ [] → (b : Body) → IsIn b sent → CFact r.client s' b
+  none_sent e b i = absurd (rw e at i)
+
+  pub said_new : CRec r.client s → Act r Got s s' sent → (b : Body) → IsIn b sent → CFact r.client s' b
+  said_new t (Quiet e d g q) b i = quiet_said sent q b i
+  said_new t (Advances u n l c d q) b i = none_sent q b i
+  said_new t (Prepares k n e d f q) b i = only _ q (t.own (running_under_way s.phase n), inr (sym e, rw f refl)) b i
+  said_new t (Counts k vs acs j v a got b' c e d f q) b i = none_sent q b i
+  said_new t (Proposes k vs acs d0 a b' e d f q) b i = only _ q (refl, t.own (prepared_under_way _ _ _ _ _ a), inr (sym e, rw f (refl, refl))) b i
+  said_new t (Accepts k vs d0 acs j a got b' c e d f q) b i = none_sent q b i
+  said_new t (Decides k vs o' acs d0 a w e d f q) b i = only _ q (rw d (inl refl)) b i
+  said_new t (Gives_up n e d f q) b i = only _ q (rw d (inl refl)) b i
+  said_new t (Learns j d0 k n got e d f q) b i = none_sent q b i
+
+pub rec_reach : (p : Plan) (w : World) → Reach p w → (c : ℕ) → CRec c (w.client c)
+rec_reach p w q = clients_reach p CRec (λ c. record { own = λ u. absurd u; done = λ d i. absurd i }) (λ v t c s sent a k. act_rec (rules p c) (GotAt v c) (v.client c) s sent a k) w q
+
+pub client_facts_reach : (p : Plan) (w : World) → Reach p w → ClientsSaid CFact w
+client_facts_reach p w q = clients_said_reach p CFact (λ v t c s sent a. (said_stays (rules p c) (GotAt v c) (v.client c) s sent a, said_new (rules p c) (GotAt v c) (v.client c) s sent (rec_reach p v t c) a)) w q

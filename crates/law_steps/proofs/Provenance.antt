@@ -1,0 +1,193 @@
+use Rattle.std.proofs.Common.{◌≡◌, ℕ, ◌⊎◌, inl, inr, refl, ap, sym, ◌∙◌, subst, true, false, Bool, cond, List, ◌∷◌, Option, Some, None}
+use Rattle.std.specs.Prelude.{flat_map, option_map}
+use Rattle.protocol.specs.Words.{Exec, NodeId, Client, Replica, Warden, Envelope, Body, Vote, Voted}
+use Rattle.protocol.specs.Lists.{IsIn, upto}
+use Rattle.protocol.specs.Replica.Taken.{Handled, takes, after_taking}
+use Rattle.protocol.specs.Replica.Votes.{casts, cast_on, vote, Cast}
+use Rattle.protocol.specs.Replica.Says.{says}
+use Rattle.protocol.specs.Client.State.{ClientState, fresh_client}
+use Rattle.protocol.specs.Warden.State.{Parcel, WardenState, fresh_warden}
+use Rattle.protocol.specs.Warden.State.Parcel.{To_all, To_client}
+use Rattle.protocol.specs.World.State.{Plan, World, rules, warden_rules, in_range}
+use Rattle.protocol.specs.World.Events.{at, to_all, parcel}
+use Rattle.protocol.proofs.ReplicaGrows.{cast_stays}
+use Rattle.protocol.proofs.ListsLemmas.{IsIn-cases, IsIn-map, IsIn-flat_map, at_cases, at_same}
+use Rattle.law_steps.proofs.Reach.{Step, Reach, GotAt, HeardAt}
+use Rattle.law_steps.proofs.Acts.{Act}
+use Rattle.law_steps.proofs.Wards.{WAct}
+use Rattle.law_steps.proofs.Reach.Step.{Stands, Client_acts, Replica_acts, Warden_acts}
+use Rattle.law_steps.proofs.Reach.From.{Begins, Next}
+use Rattle.law_steps.proofs.Spoken.{spoken}
+
+-- who sends to all replicas
+pub from_to_all : (n : ℕ) (node : NodeId) (bs : List Body) (e : Envelope) → IsIn e (flat_map (to_all n node) bs) → (e.from ≡ node) × IsIn e.body bs
+from_to_all n node bs e i =
+    let k = IsIn-flat_map (to_all n node) e bs i in
+    let l = IsIn-map (λ r. record { from = node; to = Replica r; body = k.0 }) e (upto n) k.2 in
+    (ap (λ (m : Envelope). m.from) l.2, subst (λ b. IsIn b bs) (sym (ap (λ (m : Envelope). m.body) l.2)) k.1)
+
+abbrev pub parcel_body : Parcel → Body
+parcel_body (To_all b) = b
+parcel_body (To_client c b) = b
+
+from_parcel : (n : ℕ) (node : NodeId) (a : Parcel) (e : Envelope) → IsIn e (parcel n node a) → (e.from ≡ node) × (e.body ≡ parcel_body a)
+from_parcel n node (To_all b) e i = let l = IsIn-map (λ r. record { from = node; to = Replica r; body = b }) e (upto n) i in (ap (λ (m : Envelope). m.from) l.2, ap (λ (m : Envelope). m.body) l.2)
+from_parcel n node (To_client c b) e (inl q) = (ap (λ (m : Envelope). m.from) q, ap (λ (m : Envelope). m.body) q)
+from_parcel n node (To_client c b) e (inr i) = absurd i
+
+pub from_parcels : (n : ℕ) (node : NodeId) (ps : List Parcel) (e : Envelope) → IsIn e (flat_map (parcel n node) ps) → (e.from ≡ node) × (a : Parcel) × IsIn a ps × (e.body ≡ parcel_body a)
+from_parcels n node ps e i =
+    let k = IsIn-flat_map (parcel n node) e ps i in
+    let l = from_parcel n node k.0 e k.2 in
+    (l.0, k.0, k.1, l.1)
+
+-- a fact F of what a replica said, which stays as it takes more, holds of each envelope of its in the mail
+pub record ReplicasSaid (F : ℕ → Handled → Body → Type 0) (w : World) : Type 0 where
+  pub said : (e : Envelope) (r : ℕ) → IsIn e w.mail → e.from ≡ Replica r → F r (w.replica r) e.body
+
+pub replicas_said : (p : Plan) (F : ℕ → Handled → Body → Type 0)
+    → ((r : ℕ) (h : Handled) (m : Envelope) (b : Body) → F r h b → F r (after_taking h m) b)
+    → (w w' : World) → ((r : ℕ) (m e : Envelope) → IsIn m w.mail → IsIn e (says p.firsts r (w.replica r) m) → F r (after_taking (w.replica r) m) e.body)
+    → Step p w w' → ReplicasSaid F w → ReplicasSaid F w'
+replicas_said p F mono w w' new (Stands s) t = record { said = λ e r. rw (s.mail, s.replica) (t.said e r) }
+replicas_said p F mono w w' new (Client_acts s) t = record { said = λ e r i q. rw s.replica (go e r (IsIn-cases e w.mail _ (rw s.mail at i)) q) }
+  where
+    go : (e : Envelope) (r : ℕ) → IsIn e w.mail ⊎ IsIn e (flat_map (to_all p.replicas (Client s.c)) s.sent) → e.from ≡ Replica r → F r (w.replica r) e.body
+    go e r (inl i) q = t.said e r i q
+    go e r (inr i) q = let k = from_to_all p.replicas (Client s.c) s.sent e i in let o = k.0 in absurd (cc)
+replicas_said p F mono w w' new (Warden_acts s) t = record { said = λ e r i q. rw s.replica (go e r (IsIn-cases e w.mail _ (rw s.mail at i)) q) }
+  where
+    go : (e : Envelope) (r : ℕ) → IsIn e w.mail ⊎ IsIn e (flat_map (parcel p.replicas (Warden s.k)) s.sent) → e.from ≡ Replica r → F r (w.replica r) e.body
+    go e r (inl i) q = t.said e r i q
+    go e r (inr i) q = let k = from_parcels p.replicas (Warden s.k) s.sent e i in let o = k.0 in absurd (cc)
+replicas_said p F mono w w' new (Replica_acts s) t = record { said = λ e r i q. rw s.replica (go e r (IsIn-cases e w.mail _ (rw s.mail at i)) q) }
+  where
+    go : (e : Envelope) (r : ℕ) → IsIn e w.mail ⊎ IsIn e (says p.firsts s.r (w.replica s.r) s.m) → e.from ≡ Replica r → F r (at s.r (after_taking (w.replica s.r) s.m) w.replica r) e.body
+    go e r (inl i) q = at_cases (λ h. F r h e.body) s.r (after_taking (w.replica s.r) s.m) w.replica r
+        (λ k. rw k (mono s.r (w.replica s.r) s.m e.body (t.said e s.r i (q ∙ ap Replica k)))) (t.said e r i q)
+    go e r (inr i) q =
+        let k = spoken p.firsts s.r (w.replica s.r) s.m e i in let o = k.0 in let same : r ≡ s.r = cc in
+        subst (λ j. F j (at s.r (after_taking (w.replica s.r) s.m) w.replica j) e.body) (sym same)
+        (rw at_same (new s.r s.m e s.in_mail i))
+
+pub replicas_said_reach : (p : Plan) (F : ℕ → Handled → Body → Type 0)
+    → ((r : ℕ) (h : Handled) (m : Envelope) (b : Body) → F r h b → F r (after_taking h m) b)
+    → ((w : World) → Reach p w → (r : ℕ) (m e : Envelope) → IsIn m w.mail → IsIn e (says p.firsts r (w.replica r) m) → F r (after_taking (w.replica r) m) e.body)
+    → (w : World) → Reach p w → ReplicasSaid F w
+replicas_said_reach p F mono new _ Begins = record { said = λ e r i. absurd i }
+replicas_said_reach p F mono new _ (Next w w' r s) = replicas_said p F mono w w' (new w r) s (replicas_said_reach p F mono new w r)
+
+-- a Vote in the mail is the vote that its sender's list still names
+abbrev pub IsVote : ℕ → Handled → Body → Type 0
+IsVote r h (Voted x v) = vote h x ≡ Some v
+IsVote r h _ = Unit {0}
+
+some_cast : (o : Option Cast) (v : Vote) → option_map (λ (y : Cast). y.vote) o ≡ Some v → (y : Cast) × (o ≡ Some y) × (y.vote ≡ v)
+some_cast None v e = cc
+some_cast (Some y) v e = (y, refl, cc)
+
+pub vote_stays : (h : Handled) (m : Envelope) (x : Exec) (v : Vote) → vote h x ≡ Some v → vote (after_taking h m) x ≡ Some v
+unfolding after_taking
+vote_stays h m x v e = go (takes h m.body)
+  where
+    go : (t : Bool) → vote (cond t (m ∷ h) h) x ≡ Some v
+    go true = let k = some_cast (cast_on x (casts h)) v e in rw (cast_stays h m x k.0 k.1) (ap Some k.2)
+    go false = e
+
+vote_mono : (r : ℕ) (h : Handled) (m : Envelope) (b : Body) → IsVote r h b → IsVote r (after_taking h m) b
+vote_mono r h m (Voted x v) e = vote_stays h m x v e
+vote_mono r h m _ e = tt
+
+-- the same of clients
+pub record ClientsSaid (G : ℕ → ClientState → Body → Type 0) (w : World) : Type 0 where
+  pub said : (e : Envelope) (c : ℕ) → IsIn e w.mail → e.from ≡ Client c → G c (w.client c) e.body
+
+from_replica_not : (r c : ℕ) (n : NodeId) → n ≡ Replica r → n ≡ Client c → ⊥
+from_replica_not r c n e f = cc
+
+pub clients_said : (p : Plan) (G : ℕ → ClientState → Body → Type 0)
+    → (w w' : World)
+    → ((c : ℕ) (s : ClientState) (sent : List Body) → Act (rules p c) (GotAt w c) (w.client c) s sent → ((b : Body) → G c (w.client c) b → G c s b) × ((b : Body) → IsIn b sent → G c s b))
+    → Step p w w' → ClientsSaid G w → ClientsSaid G w'
+clients_said p G w w' f (Stands s) t = record { said = λ e c. rw (s.mail, s.client) (t.said e c) }
+clients_said p G w w' f (Replica_acts s) t = record { said = λ e c i q. rw s.client (go e c (IsIn-cases e w.mail _ (rw s.mail at i)) q) }
+  where
+    go : (e : Envelope) (c : ℕ) → IsIn e w.mail ⊎ IsIn e (says p.firsts s.r (w.replica s.r) s.m) → e.from ≡ Client c → G c (w.client c) e.body
+    go e c (inl i) q = t.said e c i q
+    go e c (inr i) q = absurd (from_replica_not s.r c e.from (spoken p.firsts s.r (w.replica s.r) s.m e i).0 q)
+clients_said p G w w' f (Warden_acts s) t = record { said = λ e c i q. rw s.client (go e c (IsIn-cases e w.mail _ (rw s.mail at i)) q) }
+  where
+    go : (e : Envelope) (c : ℕ) → IsIn e w.mail ⊎ IsIn e (flat_map (parcel p.replicas (Warden s.k)) s.sent) → e.from ≡ Client c → G c (w.client c) e.body
+    go e c (inl i) q = t.said e c i q
+    go e c (inr i) q = let k = from_parcels p.replicas (Warden s.k) s.sent e i in let o = k.0 in absurd (cc)
+clients_said p G w w' f (Client_acts s) t = record { said = λ e c i q. rw s.client (go e c (IsIn-cases e w.mail _ (rw s.mail at i)) q) }
+  where
+    go : (e : Envelope) (c : ℕ) → IsIn e w.mail ⊎ IsIn e (flat_map (to_all p.replicas (Client s.c)) s.sent) → e.from ≡ Client c → G c (at s.c s.state w.client c) e.body
+    go e c (inl i) q = at_cases (λ z. G c z e.body) s.c s.state w.client c
+        (λ k. subst (λ j. G j s.state e.body) (sym k) ((f s.c s.state s.sent s.act).0 e.body (t.said e s.c i (q ∙ ap Client k)))) (t.said e c i q)
+    go e c (inr i) q =
+        let k = from_to_all p.replicas (Client s.c) s.sent e i in let o = k.0 in let same : c ≡ s.c = cc in
+        subst (λ j. G j (at s.c s.state w.client j) e.body) (sym same)
+        (rw at_same ((f s.c s.state s.sent s.act).1 e.body k.1))
+
+pub clients_said_reach : (p : Plan) (G : ℕ → ClientState → Body → Type 0)
+    → ((w : World) → Reach p w → (c : ℕ) (s : ClientState) (sent : List Body) → Act (rules p c) (GotAt w c) (w.client c) s sent → ((b : Body) → G c (w.client c) b → G c s b) × ((b : Body) → IsIn b sent → G c s b))
+    → (w : World) → Reach p w → ClientsSaid G w
+clients_said_reach p G f _ Begins = record { said = λ e c i. absurd i }
+clients_said_reach p G f _ (Next w w' r s) = clients_said p G w w' (f w r) s (clients_said_reach p G f w r)
+
+-- a fact of each client's record, which each act keeps
+pub clients_reach : (p : Plan) (K : ℕ → ClientState → Type 0) → ((c : ℕ) → K c fresh_client)
+    → ((w : World) → Reach p w → (c : ℕ) (s : ClientState) (sent : List Body) → Act (rules p c) (GotAt w c) (w.client c) s sent → K c (w.client c) → K c s)
+    → (w : World) → Reach p w → (c : ℕ) → K c (w.client c)
+clients_reach p K k f _ Begins c = k c
+clients_reach p K k f _ (Next w w' r (Stands s)) c = rw s.client (clients_reach p K k f w r c)
+clients_reach p K k f _ (Next w w' r (Replica_acts s)) c = rw s.client (clients_reach p K k f w r c)
+clients_reach p K k f _ (Next w w' r (Warden_acts s)) c = rw s.client (clients_reach p K k f w r c)
+clients_reach p K k f _ (Next w w' r (Client_acts s)) c = rw s.client (at_cases (K c) s.c s.state w.client c
+    (λ e. subst (λ j. K j s.state) (sym e) (f w r s.c s.state s.sent s.act (clients_reach p K k f w r s.c))) (clients_reach p K k f w r c))
+
+-- the same of wardens
+pub record WardensSaid (H : ℕ → WardenState → Body → Type 0) (w : World) : Type 0 where
+  pub said : (e : Envelope) (k : ℕ) → IsIn e w.mail → e.from ≡ Warden k → H k (w.warden k) e.body
+
+pub wardens_said : (p : Plan) (H : ℕ → WardenState → Body → Type 0)
+    → (w w' : World)
+    → ((k : ℕ) (s : WardenState) (sent : List Parcel) → in_range k p.wardens ≡ true → WAct (warden_rules p k) (HeardAt w k) (w.warden k) s sent → ((b : Body) → H k (w.warden k) b → H k s b) × ((a : Parcel) → IsIn a sent → H k s (parcel_body a)))
+    → Step p w w' → WardensSaid H w → WardensSaid H w'
+wardens_said p H w w' f (Stands s) t = record { said = λ e c. rw (s.mail, s.warden) (t.said e c) }
+wardens_said p H w w' f (Replica_acts s) t = record { said = λ e c i q. rw s.warden (go e c (IsIn-cases e w.mail _ (rw s.mail at i)) q) }
+  where
+    go : (e : Envelope) (c : ℕ) → IsIn e w.mail ⊎ IsIn e (says p.firsts s.r (w.replica s.r) s.m) → e.from ≡ Warden c → H c (w.warden c) e.body
+    go e c (inl i) q = t.said e c i q
+    go e c (inr i) q = let k = spoken p.firsts s.r (w.replica s.r) s.m e i in let o = k.0 in absurd (cc)
+wardens_said p H w w' f (Client_acts s) t = record { said = λ e c i q. rw s.warden (go e c (IsIn-cases e w.mail _ (rw s.mail at i)) q) }
+  where
+    go : (e : Envelope) (c : ℕ) → IsIn e w.mail ⊎ IsIn e (flat_map (to_all p.replicas (Client s.c)) s.sent) → e.from ≡ Warden c → H c (w.warden c) e.body
+    go e c (inl i) q = t.said e c i q
+    go e c (inr i) q = let k = from_to_all p.replicas (Client s.c) s.sent e i in let o = k.0 in absurd (cc)
+wardens_said p H w w' f (Warden_acts s) t = record { said = λ e c i q. rw s.warden (go e c (IsIn-cases e w.mail _ (rw s.mail at i)) q) }
+  where
+    go : (e : Envelope) (c : ℕ) → IsIn e w.mail ⊎ IsIn e (flat_map (parcel p.replicas (Warden s.k)) s.sent) → e.from ≡ Warden c → H c (at s.k s.state w.warden c) e.body
+    go e c (inl i) q = at_cases (λ z. H c z e.body) s.k s.state w.warden c
+        (λ k. subst (λ j. H j s.state e.body) (sym k) ((f s.k s.state s.sent s.real s.act).0 e.body (t.said e s.k i (q ∙ ap Warden k)))) (t.said e c i q)
+    go e c (inr i) q =
+        let k = from_parcels p.replicas (Warden s.k) s.sent e i in let o = k.0 in let same : c ≡ s.k = cc in
+        subst (λ j. H j (at s.k s.state w.warden j) e.body) (sym same)
+        (rw at_same (subst (H s.k s.state) (sym k.3) ((f s.k s.state s.sent s.real s.act).1 k.1 k.2)))
+
+pub wardens_said_reach : (p : Plan) (H : ℕ → WardenState → Body → Type 0)
+    → ((w : World) → Reach p w → (k : ℕ) (s : WardenState) (sent : List Parcel) → in_range k p.wardens ≡ true → WAct (warden_rules p k) (HeardAt w k) (w.warden k) s sent → ((b : Body) → H k (w.warden k) b → H k s b) × ((a : Parcel) → IsIn a sent → H k s (parcel_body a)))
+    → (w : World) → Reach p w → WardensSaid H w
+wardens_said_reach p H f _ Begins = record { said = λ e k i. absurd i }
+wardens_said_reach p H f _ (Next w w' r s) = wardens_said p H w w' (f w r) s (wardens_said_reach p H f w r)
+
+pub wardens_reach : (p : Plan) (K : ℕ → WardenState → Type 0) → ((k : ℕ) → K k fresh_warden)
+    → ((w : World) → Reach p w → (k : ℕ) (s : WardenState) (sent : List Parcel) → in_range k p.wardens ≡ true → WAct (warden_rules p k) (HeardAt w k) (w.warden k) s sent → K k (w.warden k) → K k s)
+    → (w : World) → Reach p w → (k : ℕ) → K k (w.warden k)
+wardens_reach p K k f _ Begins c = k c
+wardens_reach p K k f _ (Next w w' r (Stands s)) c = rw s.warden (wardens_reach p K k f w r c)
+wardens_reach p K k f _ (Next w w' r (Replica_acts s)) c = rw s.warden (wardens_reach p K k f w r c)
+wardens_reach p K k f _ (Next w w' r (Client_acts s)) c = rw s.warden (wardens_reach p K k f w r c)
+wardens_reach p K k f _ (Next w w' r (Warden_acts s)) c = rw s.warden (at_cases (K c) s.k s.state w.warden c
+    (λ e. subst (λ j. K j s.state) (sym e) (f w r s.k s.state s.sent s.real s.act (wardens_reach p K k f w r s.k))) (wardens_reach p K k f w r c))

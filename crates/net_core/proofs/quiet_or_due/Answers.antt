@@ -1,0 +1,5 @@
+use Rattle.net_core.proofs.Turns as proved
+use Rattle.net_core.proofs.quiet_or_due.Goals as goal
+
+pub returns : goal.returns
+returns c = proved.quiet_or_due

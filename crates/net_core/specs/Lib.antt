@@ -1,0 +1,5 @@
+pub mod Machine
+pub mod Marks
+pub mod Rounds
+pub mod Fair
+pub mod Laws

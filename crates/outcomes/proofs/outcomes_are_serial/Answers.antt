@@ -1,5 +1,0 @@
-use Rattle.outcomes.proofs.Outcomes as proved
-use Rattle.outcomes.proofs.outcomes_are_serial.Goals as goal
-
-pub returns : goal.returns
-returns c = proved.outcomes_are_serial

@@ -1,4 +1,0 @@
-pub mod Scripted
-pub mod Limits
-pub mod Laws
-pub mod Samples

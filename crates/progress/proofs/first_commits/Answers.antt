@@ -1,5 +1,0 @@
-use Rattle.progress.proofs.Scripts as proved
-use Rattle.progress.proofs.first_commits.Goals as goal
-
-pub returns : goal.returns
-returns c = proved.first_commits

@@ -1,4 +1,0 @@
-pub mod Undisturbed
-pub mod Apart
-pub mod First
-pub mod Quiet

@@ -1,0 +1,73 @@
+-- A replica is the list of the envelopes that it took: what it takes, drops and fences is read from that list.
+use Rattle.std.specs.Prelude.{Bool, true, false, cond, not, ◌&&◌, List, [], ◌∷◌, Option, Some, None}
+use Rattle.protocol.specs.Words.{Version, ToCommit, BaseEntry, Envelope, Body, Get, Puts, Prepare, Finalize, Decide, Ask, Fence, Drops, no_version, before}
+
+-- the envelopes that a replica took, the newest first
+abbrev pub Handled : Type 0
+Handled = List Envelope
+
+-- the later of two versions
+abbrev pub later : Version → Version → Version
+later a b = cond (before a b) b a
+
+-- the version that a body drops
+abbrev pub dropped_by : Body → Version
+dropped_by (Drops w b) = w
+dropped_by _ = no_version
+
+-- the greatest version that a Drop named
+abbrev pub dropped : Handled → Version
+dropped [] = no_version
+dropped (m ∷ h) = later (dropped h) (dropped_by m.body)
+
+-- the version up to which a body fences
+abbrev pub fenced_by : Body → Version
+fenced_by (Drops w b) = w
+fenced_by (Fence w) = w
+fenced_by _ = no_version
+
+-- the greatest version that a Fence or a Drop named: no vote at or below it is Commit any more
+abbrev pub fence : Handled → Version
+fence [] = no_version
+fence (m ∷ h) = later (fence h) (fenced_by m.body)
+
+-- a Drop of a later version than all before brings its base
+abbrev pub base_after : Handled → List BaseEntry → Body → List BaseEntry
+base_after h b (Drops w new) = cond (before (dropped h) w) new b
+base_after h b _ = b
+
+-- the base of the first Drop of the dropped version
+abbrev pub base : Handled → List BaseEntry
+base [] = []
+base (m ∷ h) = base_after h (base h) m.body
+
+-- the version that a body is about, where a replica has a rule for it
+abbrev pub version_of : Body → Option Version
+version_of (Get x k) = Some x.ver
+version_of (Puts x ws) = Some x.ver
+version_of (Prepare x c) = Some x.ver
+version_of (Finalize x v d c) = Some x.ver
+version_of (Decide x d c) = Some x.ver
+version_of (Ask x v) = Some x.ver
+version_of (Fence w) = Some w
+version_of (Drops w b) = Some w
+version_of _ = None
+
+-- a Finalize or Decide of Commit without its content changes nothing
+abbrev pub lacks_content : Body → Bool
+lacks_content (Finalize x v ToCommit None) = true
+lacks_content (Decide x ToCommit None) = true
+lacks_content _ = false
+
+-- there is a version, and it is above w
+abbrev pub is_above : Version → Option Version → Bool
+is_above w None = false
+is_above w (Some v) = before w v
+
+-- a replica takes what its rules speak of, about versions above the dropped one alone
+unfoldable pub takes : Handled → Body → Bool
+takes h b = is_above (dropped h) (version_of b) && not (lacks_content b)
+
+-- the list after an envelope came
+unfoldable pub after_taking : Handled → Envelope → Handled
+after_taking h m = cond (takes h m.body) (m ∷ h) h

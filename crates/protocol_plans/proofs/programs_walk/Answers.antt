@@ -1,0 +1,5 @@
+use Rattle.protocol_plans.proofs.Walking as proved
+use Rattle.protocol_plans.proofs.programs_walk.Goals as goal
+
+pub returns : goal.returns
+returns c = proved.programs_walk

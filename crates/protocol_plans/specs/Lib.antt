@@ -1,0 +1,4 @@
+pub mod Scripted
+pub mod SerialOutcome
+pub mod Limits
+pub mod Laws

@@ -1,5 +1,0 @@
-use Rattle.protocol_rows.proofs.Computed.{computes}
-use Rattle.protocol_rows.proofs.fast_path.Goals as goal
-
-pub returns : goal.returns
-returns c = computes.1

@@ -1,0 +1,4 @@
+pub mod Computed
+pub mod ComputedTelling
+pub mod ComputedJournals
+pub mod Quiet

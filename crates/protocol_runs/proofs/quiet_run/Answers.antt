@@ -1,0 +1,5 @@
+use Rattle.protocol_runs.proofs.Quiet as proved
+use Rattle.protocol_runs.proofs.quiet_run.Goals as goal
+
+pub returns : goal.returns
+returns c = proved.quiet_run

@@ -1,0 +1,94 @@
+-- A few programs, and scripts made of them, for runs that are computed.
+use Rattle.std.specs.Prelude.{ℕ, ℤ, pos, ◌+ℤ◌, List, [], ◌∷◌, Some, None}
+use Rattle.protocol.specs.Words.{Version, Exec, Wid, Key, Done, NodeId, first_wid, Body, Envelope, Content, Write}
+use Rattle.protocol.specs.declared.First2.{First2}
+use Rattle.protocol.specs.Client.State.{Walk, Txn}
+use Rattle.protocol.specs.World.State.{Plan}
+
+-- the keys x[1] and y[1]
+abbrev pub x1 : Key
+x1 = record { table = 0; index = pos 1 }
+
+abbrev pub y1 : Key
+y1 = record { table = 1; index = pos 1 }
+
+-- the first and the second execution of a version, and a write of the first
+abbrev pub exec_of : ℕ → ℕ → Exec
+exec_of ts client = record { ver = record { ts = ts; client = client }; eid = 0 }
+
+abbrev pub second_of : ℕ → ℕ → Exec
+second_of ts client = record { ver = record { ts = ts; client = client }; eid = 1 }
+
+abbrev pub wid_of : ℕ → ℕ → ℕ → Wid
+wid_of ts client seq = record { ver = record { ts = ts; client = client }; eid = 0; seq = seq }
+
+-- a version, an envelope, and what inc and look do where they read a first value
+abbrev pub version_at : ℕ → ℕ → Version
+version_at ts client = record { ts = ts; client = client }
+
+abbrev pub envelope : NodeId → NodeId → Body → Envelope
+envelope from to body = record { from = from; to = to; body = body }
+
+abbrev pub increased : ℤ → Content
+increased first = record {
+  reads = record { key = x1; wid = first_wid; value = first } ∷ [];
+  writes = record { key = x1; value = first +ℤ pos 1 } ∷ [];
+  out = first ∷ [];
+  ending = Done;
+}
+
+abbrev pub looked : ℤ → Content
+looked first = record { reads = record { key = x1; wid = first_wid; value = first } ∷ []; writes = []; out = first ∷ []; ending = Done }
+
+-- what is asked next, before the end
+abbrev pub asking : List Key → Key → Walk
+asking keys k = record { keys = keys; asks = Some k; ending = None; writes = []; out = [] }
+
+-- all that was done, at the end
+abbrev pub done : List Key → List Write → List ℤ → Walk
+done keys writes out = record { keys = keys; asks = None; ending = Some Done; writes = writes; out = out }
+
+-- read x[1], write x[1] one more, print what was read
+abbrev pub inc : List ℤ → Walk
+inc [] = asking [] x1
+inc (a ∷ more) = done (x1 ∷ []) (record { key = x1; value = a +ℤ pos 1 } ∷ []) (a ∷ [])
+
+-- read x[1] and print it
+abbrev pub look : List ℤ → Walk
+look [] = asking [] x1
+look (a ∷ more) = done (x1 ∷ []) [] (a ∷ [])
+
+-- write 1 to x[1]
+abbrev pub put : List ℤ → Walk
+put answers = done [] (record { key = x1; value = pos 1 } ∷ []) []
+
+-- write 7 to x[1], then read y[1] and print it
+abbrev pub half : List ℤ → Walk
+half [] = record { keys = []; asks = Some y1; ending = None; writes = record { key = x1; value = pos 7 } ∷ []; out = [] }
+half (b ∷ more) = done (y1 ∷ []) (record { key = x1; value = pos 7 } ∷ []) (b ∷ [])
+
+-- read x[1] and y[1], write their sum to x[1], print the first
+abbrev pub two : List ℤ → Walk
+two [] = asking [] x1
+two (a ∷ []) = asking (x1 ∷ []) y1
+two (a ∷ b ∷ more) = done (x1 ∷ y1 ∷ []) (record { key = x1; value = a +ℤ b } ∷ []) (a ∷ [])
+
+-- the only transaction of a client
+abbrev pub only : (List ℤ → Walk) → ℕ → List Txn
+only program at = record { walk = program; at = at } ∷ []
+
+-- so many replicas and wardens, these clients and first values, and the usual limits
+abbrev pub plan : ℕ → ℕ → List (List Txn) → List First2 → ℕ → Plan
+plan replicas wardens clients firsts gap = record {
+  replicas = replicas;
+  wardens = wardens;
+  clients = clients;
+  firsts = firsts;
+  tries = 3;
+  execs = 16;
+  gap = gap;
+}
+
+-- x[1] is 4 at first
+abbrev pub four : List First2
+four = record { key = x1; value = pos 4 } ∷ []

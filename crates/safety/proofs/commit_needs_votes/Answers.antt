@@ -1,5 +1,0 @@
-use Rattle.safety.proofs.Invariants as proved
-use Rattle.safety.proofs.commit_needs_votes.Goals as goal
-
-pub returns : goal.returns
-returns c = proved.commit_needs_votes

@@ -1,5 +1,0 @@
-use Rattle.safety.proofs.Listed as proved
-use Rattle.safety.proofs.committed_list.Goals as goal
-
-pub returns : goal.returns
-returns c = proved.committed_list

@@ -1,5 +1,0 @@
-use Rattle.safety.proofs.Settled as proved
-use Rattle.safety.proofs.decisions_stay.Goals as goal
-
-pub returns : goal.returns
-returns c = proved.decisions_stay

@@ -1,5 +1,0 @@
-use Rattle.safety.proofs.Agreed as proved
-use Rattle.safety.proofs.no_conflict.Goals as goal
-
-pub returns : goal.returns
-returns c = proved.no_conflict

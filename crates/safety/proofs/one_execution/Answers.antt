@@ -1,5 +1,0 @@
-use Rattle.safety.proofs.Tried as proved
-use Rattle.safety.proofs.one_execution.Goals as goal
-
-pub returns : goal.returns
-returns c = proved.one_execution

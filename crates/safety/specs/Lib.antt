@@ -1,6 +1,0 @@
-pub mod Locks
-pub mod Agreement
-pub mod Tries
-pub mod Bases
-pub mod Outcome
-pub mod Invariants

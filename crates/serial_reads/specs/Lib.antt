@@ -1,4 +1,0 @@
-pub mod Fronts
-pub mod Reads
-pub mod Programs
-pub mod Replays

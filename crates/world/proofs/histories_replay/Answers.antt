@@ -1,0 +1,5 @@
+use Rattle.world.proofs.Replays as proved
+use Rattle.world.proofs.histories_replay.Goals as goal
+
+pub returns : goal.returns
+returns c = proved.histories_replay
