@@ -5,4 +5,5 @@ pub mod Replica
 pub mod Client
 pub mod Warden
 pub mod World
+pub mod Always
 pub mod Laws

@@ -1,5 +1,5 @@
 -- Words on lists and options.
-use Rattle.std.specs.Prelude.{◌≡◌, ℕ, zero, suc, ◌⊎◌, Bool, true, false, cond, List, [], ◌∷◌, ◌++◌, Option, Some, None}
+use Rattle.std.specs.Prelude.{◌≡◌, ℕ, zero, suc, ◌⊎◌, Bool, true, false, cond, List, [], ◌∷◌, ◌++◌}
 
 -- x is an element of the list
 abbrev pub IsIn : {A : Type 0} → A → List A → Type 0

@@ -1,10 +1,10 @@
 -- What a plan that is made of programs has.
-use Rattle.std.specs.Prelude.{ℕ, ◌<◌}
+use Rattle.std.specs.Prelude.{ℕ}
 use Rattle.std.specs.List.{slice_get}
 use Rattle.txn_lang.specs.Program.{Program}
 use Rattle.protocol.specs.Client.State.{walk_at}
-use Rattle.protocol.specs.World.State.{Plan, rules}
-use Rattle.protocol.specs.World.Premises.{IsProgramWalk, WritesGrow, HasPrograms}
+use Rattle.protocol.specs.World.State.{rules}
+use Rattle.protocol.specs.World.Premises.{IsProgramWalk, WritesGrow, HasPrograms, MeetsPremises}
 use Rattle.protocol_plans.specs.Scripted.{program_walk, Scripted, plan_of}
 use Rattle.protocol_plans.specs.Limits.{IsScript}
 
@@ -15,12 +15,6 @@ ProgramsWalk = (p : Program) → IsProgramWalk (program_walk p) × WritesGrow (p
 -- so does each transaction of a script's plan
 abbrev pub PlansHavePrograms : Type 0
 PlansHavePrograms = (s : Scripted) → HasPrograms (plan_of s) × ((c n : ℕ) → WritesGrow (walk_at (slice_get (rules (plan_of s) c).txns n)))
-
--- what the laws of the protocol ask of a plan
-pub record MeetsPremises (p : Plan) : Type 0 where
-  pub replicas : 0 < p.replicas
-  pub programs : HasPrograms p
-  pub grow : (c n : ℕ) → WritesGrow (walk_at (slice_get (rules p c).txns n))
 
 -- the plan of a script within its limits has it
 abbrev pub ScriptsMeetPremises : Type 0

@@ -1,6 +1,6 @@
 -- What a replica promised and accepted in numbered views, and what was decided and committed at it.
-use Rattle.std.specs.Prelude.{ℕ, max, cond, not, ◌&&◌, nat_le, List, [], ◌∷◌, ◌++◌, Option, Some, None, is_none, option_map, find}
-use Rattle.protocol.specs.Words.{Exec, Choice, ToCommit, Accept, Content, Kept, Body, Finalize, Decide, Ask, before, same_exec}
+use Rattle.std.specs.Prelude.{ℕ, max, cond, ◌&&◌, nat_le, List, [], ◌∷◌, ◌++◌, Option, Some, None, is_none, option_map, find}
+use Rattle.protocol.specs.Words.{Exec, Choice, ToCommit, Accept, Content, Kept, Body, Finalize, Decide, Ask, same_exec}
 use Rattle.std.specs.Option.{option_or}
 use Rattle.std.specs.Bool.{then_some}
 use Rattle.protocol.specs.Lists.{one_when}

@@ -1,7 +1,7 @@
 -- How a warden truncates: it asks for a fence, counts the answers, recovers what they name, and drops.
 use Rattle.std.specs.Prelude.{cond, ℕ, suc, Bool, true, false, not, ◌&&◌, ◌||◌, ◌==◌, nat_lt, nat_le, List, [], ◌∷◌, ◌++◌, map, filter, length, is_some, flat_map}
 use Rattle.std.specs.List.{list_any, list_all}
-use Rattle.protocol.specs.Words.{Version, Exec, Fence, Fenced, Drops, no_version, before, same_version, same_exec}
+use Rattle.protocol.specs.Words.{Version, Exec, Fence, Drops, no_version, before, same_version, same_exec}
 use Rattle.protocol.specs.Quorums.{quorum}
 use Rattle.protocol.specs.Warden.State.{WardenRules, WardenState, WardenTurn, FencedAnswer, Truncation, decision_on}
 use Rattle.protocol.specs.Warden.Recovery.{recover}

@@ -1,5 +1,5 @@
 -- What an event does to the world.
-use Rattle.std.specs.Prelude.{ℕ, ◌+◌, ◌-◌, cond, not, ◌==◌, nat_le, List, [], ◌∷◌, ◌++◌, map, length, Option, Some, None, option_map, flat_map}
+use Rattle.std.specs.Prelude.{ℕ, ◌+◌, cond, ◌==◌, nat_le, List, [], ◌∷◌, ◌++◌, map, length, Option, Some, None, option_map, flat_map}
 use Rattle.std.specs.List.{list_any, slice_get}
 use Rattle.protocol.specs.Words.{NodeId, Client, Replica, Warden, Envelope, Body, same_node, Pick, Deliver, Go, Hurry, Recover, Truncate, Stop, Event, Picked, Ran, node_of}
 use Rattle.protocol.specs.Lists.{upto}

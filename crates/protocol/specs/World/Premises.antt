@@ -1,5 +1,5 @@
--- What each program has, as what it does on answers.
-use Rattle.std.specs.Prelude.{◌≡◌, ℕ, ℤ, List, ◌++◌, take, Some}
+-- What the laws of the protocol ask of a plan and its programs, each as what it does on answers.
+use Rattle.std.specs.Prelude.{◌≡◌, ℕ, ◌<◌, ℤ, List, ◌++◌, take, Some}
 use Rattle.std.specs.List.{slice_get}
 use Rattle.protocol.specs.Words.{Key, Write}
 use Rattle.protocol.specs.Client.State.{Walk, walk_at}
@@ -16,3 +16,9 @@ pub record WritesGrow (walk : List ℤ → Walk) : Type 0 where
 -- each transaction of each client has a program
 abbrev pub HasPrograms : Plan → Type 0
 HasPrograms p = (c n : ℕ) → IsProgramWalk (walk_at (slice_get (rules p c).txns n))
+
+-- what the laws on reads ask of a plan: a replica, programs that ask in order, writes that grow with the answers
+pub record MeetsPremises (p : Plan) : Type 0 where
+  pub replicas : 0 < p.replicas
+  pub programs : HasPrograms p
+  pub grow : (c n : ℕ) → WritesGrow (walk_at (slice_get (rules p c).txns n))

@@ -4,7 +4,6 @@ use Rattle.std.specs.List.{list_any, slice_get}
 use Rattle.protocol.specs.Words.{NodeId, Client, Replica, Warden, Envelope, same_node}
 use Rattle.protocol.specs.Replica.Taken.{Handled}
 use Rattle.protocol.specs.declared.First2.{First2}
-use Rattle.protocol.specs.Replica.Says.{says}
 use Rattle.protocol.specs.Client.State.{Txn, Rules, ClientState, fresh_client}
 use Rattle.protocol.specs.Warden.State.{WardenRules, WardenState, fresh_warden}
 
