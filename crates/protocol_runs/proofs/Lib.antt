@@ -1,4 +1,2 @@
 pub mod Computed
-pub mod ComputedTelling
-pub mod ComputedJournals
-pub mod Quiet
+pub mod QuietRun

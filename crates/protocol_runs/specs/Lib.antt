@@ -1,6 +1,8 @@
 pub mod Samples
 pub mod SamplePrograms
-pub mod Runs
-pub mod Telling
-pub mod Journals
-pub mod Quiet
+pub mod Commits
+pub mod ReExecutions
+pub mod Recoveries
+pub mod Truncations
+pub mod JournalRuns
+pub mod QuietRun

@@ -1,6 +1,6 @@
 -- A few programs, and scripts made of them, for runs that are computed.
-use Rattle.std.specs.Prelude.{ℕ, ℤ, pos, ◌+ℤ◌, List, [], ◌∷◌, Some, None}
-use Rattle.protocol.specs.Words.{Version, Exec, Wid, Key, Done, NodeId, first_wid, Body, Envelope, Content, Write}
+use Rattle.std.specs.Prelude.{ℕ, ℤ, pos, ◌+ℤ◌, List, [], ◌∷◌, Some, None, flat_map}
+use Rattle.protocol.specs.Words.{Version, Exec, Wid, Key, NodeId, Done, first_wid, Choice, Write, Content, Accept, Kept, BaseEntry, Body, Envelope}
 use Rattle.protocol.specs.declared.First2.{First2}
 use Rattle.protocol.specs.Client.State.{Walk, Txn}
 use Rattle.protocol.specs.World.State.{Plan}
@@ -22,23 +22,46 @@ second_of ts client = record { ver = record { ts = ts; client = client }; eid = 
 abbrev pub wid_of : ℕ → ℕ → ℕ → Wid
 wid_of ts client seq = record { ver = record { ts = ts; client = client }; eid = 0; seq = seq }
 
--- a version, an envelope, and what inc and look do where they read a first value
 abbrev pub version_at : ℕ → ℕ → Version
 version_at ts client = record { ts = ts; client = client }
 
-abbrev pub envelope : NodeId → NodeId → Body → Envelope
-envelope from to body = record { from = from; to = to; body = body }
+-- one envelope, and what was sent in order
+abbrev pub one : NodeId → NodeId → Body → List Envelope
+one from to body = record { from = from; to = to; body = body } ∷ []
 
-abbrev pub increased : ℤ → Content
-increased first = record {
-  reads = record { key = x1; wid = first_wid; value = first } ∷ [];
-  writes = record { key = x1; value = first +ℤ pos 1 } ∷ [];
-  out = first ∷ [];
+abbrev pub sent_so : List (List Envelope) → List Envelope
+sent_so envelopes = flat_map (λ es. es) envelopes
+
+-- a write, a base entry, a content named in an answer to a Fence, an accepted pair
+abbrev pub written : Key → ℤ → List Write
+written key value = record { key = key; value = value } ∷ []
+
+abbrev pub entry_of : Key → Wid → ℤ → BaseEntry
+entry_of key wid value = record { key = key; wid = wid; value = value }
+
+abbrev pub kept_as : Exec → Content → Kept
+kept_as exec content = record { exec = exec; content = content }
+
+abbrev pub pair : ℕ → Choice → Accept
+pair view choice = record { view = view; choice = choice }
+
+-- what inc, look and put do where they read this value from the write of this name, or from the first value
+abbrev pub increased_on : Wid → ℤ → Content
+increased_on wid value = record {
+  reads = record { key = x1; wid = wid; value = value } ∷ [];
+  writes = written x1 (value +ℤ pos 1);
+  out = value ∷ [];
   ending = Done;
 }
 
+abbrev pub increased : ℤ → Content
+increased value = increased_on first_wid value
+
 abbrev pub looked : ℤ → Content
-looked first = record { reads = record { key = x1; wid = first_wid; value = first } ∷ []; writes = []; out = first ∷ []; ending = Done }
+looked value = record { reads = record { key = x1; wid = first_wid; value = value } ∷ []; writes = []; out = value ∷ []; ending = Done }
+
+abbrev pub put_content : Content
+put_content = record { reads = []; writes = written x1 (pos 1); out = []; ending = Done }
 
 -- what is asked next, before the end
 abbrev pub asking : List Key → Key → Walk

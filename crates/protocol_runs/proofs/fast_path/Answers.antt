@@ -1,5 +1,5 @@
-use Rattle.protocol_runs.proofs.Computed.{computes}
+use Rattle.protocol_runs.proofs.Computed as proved
 use Rattle.protocol_runs.proofs.fast_path.Goals as goal
 
 pub returns : goal.returns
-returns c = computes.1
+returns c = proved.computes.fast_path

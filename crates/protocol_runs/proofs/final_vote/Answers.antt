@@ -1,5 +1,5 @@
-use Rattle.protocol_runs.proofs.Computed.{computes}
+use Rattle.protocol_runs.proofs.Computed as proved
 use Rattle.protocol_runs.proofs.final_vote.Goals as goal
 
 pub returns : goal.returns
-returns c = computes.4
+returns c = proved.computes.final_vote

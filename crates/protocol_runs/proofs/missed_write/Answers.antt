@@ -1,5 +1,5 @@
-use Rattle.protocol_runs.proofs.Computed.{computes}
+use Rattle.protocol_runs.proofs.Computed as proved
 use Rattle.protocol_runs.proofs.missed_write.Goals as goal
 
 pub returns : goal.returns
-returns c = computes.2
+returns c = proved.computes.missed_write

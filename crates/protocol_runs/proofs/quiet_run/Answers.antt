@@ -1,4 +1,4 @@
-use Rattle.protocol_runs.proofs.Quiet as proved
+use Rattle.protocol_runs.proofs.QuietRun as proved
 use Rattle.protocol_runs.proofs.quiet_run.Goals as goal
 
 pub returns : goal.returns

@@ -1,5 +1,5 @@
-use Rattle.protocol_runs.proofs.Computed.{computes}
+use Rattle.protocol_runs.proofs.Computed as proved
 use Rattle.protocol_runs.proofs.re_execution.Goals as goal
 
 pub returns : goal.returns
-returns c = computes.3
+returns c = proved.computes.re_execution

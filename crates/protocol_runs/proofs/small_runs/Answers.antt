@@ -1,5 +1,5 @@
-use Rattle.protocol_runs.proofs.ComputedJournals.{small}
+use Rattle.protocol_runs.proofs.Computed as proved
 use Rattle.protocol_runs.proofs.small_runs.Goals as goal
 
 pub returns : goal.returns
-returns c = small
+returns c = proved.computes.small_runs

@@ -21,7 +21,7 @@ use Rattle.protocol.specs.Client.Step.{comes_running, comes_prepared, comes, on_
 use Rattle.protocol.specs.World.State.{World, first_world}
 use Rattle.protocol.specs.World.Events.{replay_from, client_moves, replica_moves, pick_moves, enabled, after}
 use Rattle.law_progress.specs.Apart.{IsApart}
-use Rattle.protocol_runs.specs.Quiet.{quiet_plan, quiet_events, QuietRun}
+use Rattle.protocol_runs.specs.QuietRun.{quiet_plan, quiet_events, QuietRun}
 
 abbrev End : World
 End = replay_from quiet_plan first_world quiet_events
@@ -43,14 +43,18 @@ others c = elim ((absent_reach quiet_plan End (events_reach quiet_plan first_wor
 ]
 
 idle : (c : ℕ) → has_pending (End.client c).phase ≡ false
-unfolding before same_version same_exec same_key key_before same_wid wid_before same_node takes after_taking conflicts conflicts_with_base verdict may_vote held latest note_for due answer says content prepare_if_ready begin go wrote ran conclude decide note_on note_running tally_says on_tally counts_vote comes_running comes_prepared comes on_ran client_step client_moves replica_moves pick_moves enabled after
+unfolding before same_version same_exec same_key key_before same_wid wid_before same_node takes after_taking conflicts conflicts_with_base verdict may_vote
+    held latest note_for due answer says content prepare_if_ready begin go wrote ran conclude decide note_on note_running tally_says on_tally counts_vote
+    comes_running comes_prepared comes on_ran client_step client_moves replica_moves pick_moves enabled after
 idle c = elim (others c) [
   | inl e ↦ subst (λ (d : ℕ). has_pending (End.client d).phase ≡ false) (sym e) refl
   | inr e ↦ subst (λ (s : ClientState). has_pending s.phase ≡ false) (sym e) refl
 ]
 
 attempts : (c : ℕ) (a : Attempt) → IsIn a (End.client c).attempts → (c ≡ 1) × (a.txn ≡ 1)
-unfolding before same_version same_exec same_key key_before same_wid wid_before same_node takes after_taking conflicts conflicts_with_base verdict may_vote held latest note_for due answer says content prepare_if_ready begin go wrote ran conclude decide note_on note_running tally_says on_tally counts_vote comes_running comes_prepared comes on_ran client_step client_moves replica_moves pick_moves enabled after
+unfolding before same_version same_exec same_key key_before same_wid wid_before same_node takes after_taking conflicts conflicts_with_base verdict may_vote
+    held latest note_for due answer says content prepare_if_ready begin go wrote ran conclude decide note_on note_running tally_says on_tally counts_vote
+    comes_running comes_prepared comes on_ran client_step client_moves replica_moves pick_moves enabled after
 attempts c a i = elim (others c) [
   | inl e ↦ (e, only (subst (λ (d : ℕ). IsIn a (End.client d).attempts) e i))
   | inr e ↦ absurd (subst (λ (s : ClientState). IsIn a s.attempts) e i)
@@ -64,7 +68,9 @@ apart : IsApart End 1 1
 apart k mine d m z = let a = attempts z.exec.ver.client z.attempt z.of.begun in (sym z.client ∙ a.0, sym z.txn ∙ a.1)
 
 pub quiet_run : QuietRun
-unfolding before same_version same_exec same_key key_before same_wid wid_before same_node takes after_taking conflicts conflicts_with_base verdict may_vote held latest note_for due answer says content prepare_if_ready begin go wrote ran conclude decide note_on note_running tally_says on_tally counts_vote comes_running comes_prepared comes on_ran client_step client_moves replica_moves pick_moves enabled after
+unfolding before same_version same_exec same_key key_before same_wid wid_before same_node takes after_taking conflicts conflicts_with_base verdict may_vote
+    held latest note_for due answer says content prepare_if_ready begin go wrote ran conclude decide note_on note_running tally_says on_tally counts_vote
+    comes_running comes_prepared comes on_ran client_step client_moves replica_moves pick_moves enabled after
 quiet_run = record {
   undisturbed = ((λ d. cc), ((λ d. cc), ((λ d. cc), ((λ d. cc), ((λ d. cc), ((λ d. cc), ((λ d. cc), ((λ d. cc), ((λ d. cc), tt)))))))));
   settled = record { delivered = below_six; idle = idle };
