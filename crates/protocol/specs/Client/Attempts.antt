@@ -14,15 +14,15 @@ bumped s = min (s + 1) (2 ^ 64 - 1)
 
 -- where the execution has ended and each read is sure, it is prepared at once
 abbrev pub prepare_when : Rules → ClientState → List Body → Option Ending → Bool → Turn
-prepare_when r c sent (Some e) true = record {
-  state = record c { phase = Prepared (content r c e) [] None [] };
-  sent = sent ++ Prepare c.exec (content r c e) ∷ [];
+prepare_when rules c sent (Some e) true = record {
+  state = record c { phase = Prepared (content rules c e) [] None [] };
+  sent = sent ++ Prepare c.exec (content rules c e) ∷ [];
 }
-prepare_when r c sent _ _ = record { state = c; sent = sent }
+prepare_when rules c sent _ _ = record { state = c; sent = sent }
 
 -- an execution is prepared once it has ended and each of its reads is sure
 unfoldable pub prepare_if_ready : Rules → ClientState → List Body → Turn
-prepare_if_ready r c sent = prepare_when r c sent (walk r c).ending (list_all (λ a. a.label.sure) c.answers)
+prepare_if_ready rules c sent = prepare_when rules c sent (walk rules c).ending (list_all (λ a. a.label.sure) c.answers)
 
 -- the attempt was aborted
 abbrev pub is_aborted : Fate → Bool
@@ -31,7 +31,7 @@ is_aborted _ = false
 
 -- an aborted transaction has a try left
 abbrev pub tries_again : Rules → ClientState → Bool
-tries_again r c = is_aborted c.fate && nat_lt c.try r.tries
+tries_again rules c = is_aborted c.fate && nat_lt c.try rules.tries
 
 -- no attempt is under way
 abbrev pub is_between : Phase → Bool
@@ -40,7 +40,7 @@ is_between _ = false
 
 -- a try or a transaction is left to begin
 abbrev pub can_go : Rules → ClientState → Bool
-can_go r c = is_between c.phase && (tries_again r c || nat_lt c.begun (length r.txns))
+can_go rules c = is_between c.phase && (tries_again rules c || nat_lt c.begun (length rules.txns))
 
 -- when a transaction starts
 abbrev pub start_of : Option Txn → ℕ
@@ -50,25 +50,25 @@ start_of (Some t) = t.at
 -- the version of a try: its transaction's start, later by a gap with each try, and later than all versions of this
 -- client before
 abbrev pub next_version : Rules → ClientState → ℕ → ℕ → Version
-next_version r c begun try = record { ts = max (start_of (slice_get r.txns (begun - 1)) + (try - 1) * r.gap) (c.exec.ver.ts + 1); client = r.client }
+next_version rules c begun try = record { ts = max (start_of (slice_get rules.txns (begun - 1)) + (try - 1) * rules.gap) (c.exec.ver.ts + 1); client = rules.client }
 
 -- an attempt begins, with a job that starts its program
 unfoldable pub begin : Rules → ClientState → ℕ → ℕ → ClientState
-begin r c begun try = record {
+begin rules c begun try = record {
   begun = begun;
   try = try;
-  exec = record { ver = next_version r c begun try; eid = 0 };
+  exec = record { ver = next_version rules c begun try; eid = 0 };
   answers = [];
   phase = Running true false;
   serial = bumped c.serial;
   fate = Live;
   decisions = c.decisions;
-  attempts = record { ver = next_version r c begun try; txn = begun; try = try } ∷ c.attempts;
+  attempts = record { ver = next_version rules c begun try; txn = begun; try = try } ∷ c.attempts;
 }
 
 -- the next try of an aborted transaction while tries are left, else the next transaction
 unfoldable pub go : Rules → ClientState → Turn
-go r c = idle (cond (tries_again r c) (begin r c c.begun (c.try + 1)) (begin r c (c.begun + 1) 1))
+go rules c = idle (cond (tries_again rules c) (begin rules c c.begun (c.try + 1)) (begin rules c (c.begun + 1) 1))
 
 -- a job is pending
 abbrev pub has_pending : Phase → Bool
@@ -81,10 +81,10 @@ front vs = take (length vs - 1) vs
 
 -- the segment that was given back wrote something
 unfoldable pub wrote : Rules → ClientState → Bool
-wrote r c =
+wrote rules c =
     let vs = values c.answers in
-    cond (length vs == 0) (nat_lt 0 (length (walk r c).writes))
-    (nat_lt (length (walk_at (slice_get r.txns (c.begun - 1)) (front vs)).writes) (length (walk r c).writes))
+    cond (length vs == 0) (nat_lt 0 (length (walk rules c).writes))
+    (nat_lt (length (walk_at (slice_get rules.txns (c.begun - 1)) (front vs)).writes) (length (walk rules c).writes))
 
 -- the read that is asked next
 abbrev pub question : Exec → Option Key → List Body
@@ -93,7 +93,7 @@ question x (Some k) = Get x k ∷ []
 
 -- the segment of the pending job is given back: its writes go out, then its question
 unfoldable pub ran : Rules → ClientState → Bool → Turn
-ran r c given =
-    prepare_if_ready r (record c { phase = Running false true })
-    (one_when (may_put (walk r c).ending && (wrote r c || (not given && nat_lt 0 c.exec.eid))) (Puts c.exec (walk r c).writes)
-    ++ question c.exec (walk r c).asks)
+ran rules c given =
+    prepare_if_ready rules (record c { phase = Running false true })
+    (one_when (may_put (walk rules c).ending && (wrote rules c || (not given && nat_lt 0 c.exec.eid))) (Puts c.exec (walk rules c).writes)
+    ++ question c.exec (walk rules c).asks)

@@ -23,15 +23,15 @@ is_final_vote _ = false
 
 -- the vote is not Commit
 abbrev pub not_commit : Vote → Bool
-not_commit v = not (is_commit_vote v)
+not_commit vote = not (is_commit_vote vote)
 
 -- the same execution, prepared with these votes
 abbrev pub prepared : ClientState → Content → List CountedVote → Option Choice → List ℕ → ClientState
-prepared c k votes proposal accepts = record c { phase = Prepared k votes proposal accepts }
+prepared c content votes proposal accepts = record c { phase = Prepared content votes proposal accepts }
 
 -- the client proposes a choice in view 0
 unfoldable pub propose : ClientState → Content → List CountedVote → Choice → Turn
-propose c k votes d = record { state = prepared c k votes (Some d) []; sent = Finalize c.exec 0 d (content_for k d) ∷ [] }
+propose c content votes choice = record { state = prepared c content votes (Some choice) []; sent = Finalize c.exec 0 choice (content_for content choice) ∷ [] }
 
 -- what the counted votes of n replicas call for: the first case that holds
 unfoldable pub tally_says : ℕ → List CountedVote → TallyOut
@@ -48,10 +48,10 @@ hurried n votes = cond (nat_le (quorum n) (count_votes is_commit_vote votes)) To
 
 -- the client does what its votes call for
 unfoldable pub on_tally : Rules → ClientState → Content → List CountedVote → TallyOut → Turn
-on_tally r c k votes FastCommit = decide r (prepared c k votes None []) k ToCommit
-on_tally r c k votes FastAbandon = decide r (prepared c k votes None []) k Abandon
-on_tally r c k votes (Propose d) = propose c k votes d
-on_tally r c k votes Wait = idle (prepared c k votes None [])
+on_tally rules c content votes FastCommit = decide rules (prepared c content votes None []) content ToCommit
+on_tally rules c content votes FastAbandon = decide rules (prepared c content votes None []) content Abandon
+on_tally rules c content votes (Propose d) = propose c content votes d
+on_tally rules c content votes Wait = idle (prepared c content votes None [])
 
 -- the number of a sender that is one of the n replicas
 abbrev pub sender : ℕ → NodeId → Option ℕ
@@ -60,13 +60,13 @@ sender n _ = None
 
 -- the first vote of each replica on the prepared execution
 unfoldable pub counts_vote : Rules → ClientState → Content → List CountedVote → Exec → ℕ → Vote → Turn
-counts_vote r c k votes x j v =
+counts_vote rules c content votes x j v =
     let more = votes ++ record { replica = j; vote = v } ∷ [] in
-    turn_when (same_exec x c.exec && not (list_any (λ b. b.replica == j) votes)) c (on_tally r c k more (tally_says r.replicas more))
+    turn_when (same_exec x c.exec && not (list_any (λ b. b.replica == j) votes)) c (on_tally rules c content more (tally_says rules.replicas more))
 
 -- f+1 Accepted of view 0 decide what the client proposed
 unfoldable pub counts_accept : Rules → ClientState → Content → List CountedVote → Choice → List ℕ → Exec → ℕ → ℕ → Turn
-counts_accept r c k votes d accepts x view j =
-    let now = prepared c k votes (Some d) (accepts ++ j ∷ []) in
+counts_accept rules c content votes choice accepts x view j =
+    let now = prepared c content votes (Some choice) (accepts ++ j ∷ []) in
     turn_when (same_exec x c.exec && ((view == 0) && not (list_any (λ i. i == j) accepts))) c
-    (turn_when (nat_le (quorum r.replicas) (suc (length accepts))) now (decide r now k d))
+    (turn_when (nat_le (quorum rules.replicas) (suc (length accepts))) now (decide rules now content choice))

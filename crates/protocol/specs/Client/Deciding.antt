@@ -13,8 +13,8 @@ use Rattle.protocol.specs.declared.Held.{Held}
 
 -- a choice of Commit goes out with the content
 abbrev pub content_for : Content → Choice → Option Content
-content_for k Abandon = None
-content_for k ToCommit = Some k
+content_for content Abandon = None
+content_for content ToCommit = Some content
 
 -- the decision is remembered
 abbrev pub noted : ClientState → Choice → ClientState
@@ -65,26 +65,26 @@ relabelled c = record c { exec = next_exec c.exec; answers = map moved_on c.answ
 
 -- its Puts, where it ended Done
 abbrev pub puts_again : Rules → ClientState → List Body
-puts_again r c = one_when (may_put (walk r c).ending) (Puts c.exec (walk r c).writes)
+puts_again rules c = one_when (may_put (walk rules c).ending) (Puts c.exec (walk rules c).writes)
 
 -- after an Abandon with a change pending the next execution begins
 unfoldable pub next_execution : Rules → ClientState → List Body → Turn
-next_execution r c sent =
+next_execution rules c sent =
     cond (list_any other_value c.answers)
     (record { state = rewound c (cut c.answers); sent = sent })
-    (prepare_if_ready r (relabelled c) (sent ++ puts_again r (relabelled c)))
+    (prepare_if_ready rules (relabelled c) (sent ++ puts_again rules (relabelled c)))
 
 -- what follows from a decision on the prepared execution
 unfoldable pub conclude : Rules → ClientState → Choice → List Body → Turn
-conclude r c ToCommit sent = record { state = ended (noted c ToCommit) Committed; sent = sent }
-conclude r c Abandon sent =
-    cond (list_any is_change c.answers && nat_lt (c.exec.eid + 1) r.execs)
-    (next_execution r (noted c Abandon) sent)
+conclude rules c ToCommit sent = record { state = ended (noted c ToCommit) Committed; sent = sent }
+conclude rules c Abandon sent =
+    cond (list_any is_change c.answers && nat_lt (c.exec.eid + 1) rules.execs)
+    (next_execution rules (noted c Abandon) sent)
     (record { state = ended (noted c Abandon) Aborted; sent = sent })
 
 -- a client's own decision goes to all
 unfoldable pub decide : Rules → ClientState → Content → Choice → Turn
-decide r c k d = conclude r c d (Decide c.exec d (content_for k d) ∷ [])
+decide rules c content choice = conclude rules c choice (Decide c.exec choice (content_for content choice) ∷ [])
 
 -- where nothing is prepared, the client abandons the execution and the attempt
 unfoldable pub give_up : ClientState → Turn

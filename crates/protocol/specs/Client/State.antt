@@ -112,7 +112,7 @@ walk_at (Some t) vs = t.walk vs
 
 -- what the program of the attempt does on the answers so far
 abbrev pub walk : Rules → ClientState → Walk
-walk r c = walk_at (slice_get r.txns (c.begun - 1)) (values c.answers)
+walk rules c = walk_at (slice_get rules.txns (c.begun - 1)) (values c.answers)
 
 -- the ending is Done
 abbrev pub is_done : Ending → Bool
@@ -132,9 +132,9 @@ reads_of (k ∷ ks) [] = []
 
 -- what the execution did, which is prepared: an ending other than Done keeps no write
 unfoldable pub content : Rules → ClientState → Ending → Content
-content r c e = record {
-  reads = reads_of (walk r c).keys c.answers;
-  writes = cond (is_done e) (walk r c).writes [];
-  out = (walk r c).out;
+content rules c e = record {
+  reads = reads_of (walk rules c).keys c.answers;
+  writes = cond (is_done e) (walk rules c).writes [];
+  out = (walk rules c).out;
   ending = e;
 }

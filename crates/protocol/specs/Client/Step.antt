@@ -22,11 +22,11 @@ told_running c Abandon = idle (ended (noted c Abandon) Aborted)
 
 -- what an envelope does while nothing is prepared
 unfoldable pub comes_running : Rules → ClientState → Bool → NodeId → Body → Turn
-comes_running r c pending from (Note v k wid value sure lost) =
-    turn_when (same_version v c.exec.ver) c (note_running r c pending k (record { wid = wid; value = value; sure = sure }) lost)
-comes_running r c pending from (TooOld v w) = turn_when (same_version v c.exec.ver) c (give_up c)
-comes_running r c pending from (Decide x d k) = turn_when (is_warden from && same_exec x c.exec) c (told_running c d)
-comes_running r c pending from _ = idle c
+comes_running rules c pending from (Note version k wid value sure gone) =
+    turn_when (same_version version c.exec.ver) c (note_running rules c pending k (record { wid = wid; value = value; sure = sure }) gone)
+comes_running rules c pending from (TooOld version dropped) = turn_when (same_version version c.exec.ver) c (give_up c)
+comes_running rules c pending from (Decide x choice content) = turn_when (is_warden from && same_exec x c.exec) c (told_running c choice)
+comes_running rules c pending from _ = idle c
 
 -- what is counted comes from a replica
 abbrev pub from_replica : ClientState → (ℕ → Turn) → Option ℕ → Turn
@@ -35,21 +35,21 @@ from_replica c f (Some k) = f k
 
 -- what an envelope does while an execution is prepared
 unfoldable pub comes_prepared : Rules → ClientState → Content → List CountedVote → Option Choice → List ℕ → NodeId → Body → Turn
-comes_prepared r c k votes proposal accepts from (Note v key wid value sure lost) =
-    turn_when (same_version v c.exec.ver) c (idle (note_prepared r c key (record { wid = wid; value = value; sure = sure }) lost))
-comes_prepared r c k votes proposal accepts from (Decide x d content) =
-    turn_when (is_warden from && same_exec x c.exec) c (conclude r c d [])
-comes_prepared r c k votes None accepts from (Voted x v) =
-    from_replica c (λ j. counts_vote r c k votes x j v) (sender r.replicas from)
-comes_prepared r c k votes (Some d) accepts from (Accepted x view) =
-    from_replica c (λ j. counts_accept r c k votes d accepts x view j) (sender r.replicas from)
-comes_prepared r c k votes proposal accepts from _ = idle c
+comes_prepared rules c content votes proposal accepts from (Note version k wid value sure gone) =
+    turn_when (same_version version c.exec.ver) c (idle (note_prepared rules c k (record { wid = wid; value = value; sure = sure }) gone))
+comes_prepared rules c k votes proposal accepts from (Decide x choice content) =
+    turn_when (is_warden from && same_exec x c.exec) c (conclude rules c choice [])
+comes_prepared rules c content votes None accepts from (Voted x vote) =
+    from_replica c (λ j. counts_vote rules c content votes x j vote) (sender rules.replicas from)
+comes_prepared rules c content votes (Some d) accepts from (Accepted x view) =
+    from_replica c (λ j. counts_accept rules c content votes d accepts x view j) (sender rules.replicas from)
+comes_prepared rules c content votes proposal accepts from _ = idle c
 
 -- an envelope comes; between attempts it changes nothing
 unfoldable pub comes : Rules → ClientState → Phase → NodeId → Body → Turn
-comes r c Between from b = idle c
-comes r c (Running pending given) from b = comes_running r c pending from b
-comes r c (Prepared k votes proposal accepts) from b = comes_prepared r c k votes proposal accepts from b
+comes rules c Between from b = idle c
+comes rules c (Running pending given) from b = comes_running rules c pending from b
+comes rules c (Prepared content votes proposal accepts) from b = comes_prepared rules c content votes proposal accepts from b
 
 -- what can happen to a client: it begins an attempt, its pending segment is given back, it waits for votes no
 -- longer, an envelope comes
@@ -61,17 +61,17 @@ pub data Input : Type 0 where
 
 -- a segment can be given back while a job is pending
 unfoldable pub on_ran : Rules → ClientState → Phase → Option Turn
-on_ran r c (Running true given) = Some (ran r c given)
-on_ran r c _ = None
+on_ran rules c (Running true given) = Some (ran rules c given)
+on_ran rules c _ = None
 
 -- a client can hurry while prepared, until it proposed
 unfoldable pub on_hurry : Rules → ClientState → Phase → Option Turn
-on_hurry r c (Prepared k votes None accepts) = Some (propose c k votes (hurried r.replicas votes))
-on_hurry r c _ = None
+on_hurry rules c (Prepared content votes None accepts) = Some (propose c content votes (hurried rules.replicas votes))
+on_hurry rules c _ = None
 
 -- what happens to a client, where it can happen
 unfoldable pub client_step : Rules → ClientState → Input → Option Turn
-client_step r c Goes = then_some (can_go r c) (go r c)
-client_step r c Runs = on_ran r c c.phase
-client_step r c Hurries = on_hurry r c c.phase
-client_step r c (Comes from b) = Some (comes r c c.phase from b)
+client_step rules c Goes = then_some (can_go rules c) (go rules c)
+client_step rules c Runs = on_ran rules c c.phase
+client_step rules c Hurries = on_hurry rules c c.phase
+client_step rules c (Comes from b) = Some (comes rules c c.phase from b)

@@ -8,8 +8,8 @@ use Rattle.protocol.specs.Replica.Taken.{Handled}
 
 -- the view in which a body asks for a promise on x
 abbrev pub view_for : Exec → Body → ℕ
-view_for x (Ask y v) = cond (same_exec x y) v 0
-view_for x (Finalize y v d c) = cond (same_exec x y) v 0
+view_for x (Ask y view) = cond (same_exec x y) view 0
+view_for x (Finalize y view choice content) = cond (same_exec x y) view 0
 view_for x _ = 0
 
 -- the greatest view of an Ask or Finalize of x: nothing of a lower view is accepted
@@ -19,7 +19,7 @@ promised (m ∷ h) x = max (promised h x) (view_for x m.body)
 
 -- the choice that a body decides on x
 abbrev pub choice_for : Exec → Body → Option Choice
-choice_for x (Decide y d c) = then_some (same_exec x y) d
+choice_for x (Decide y choice content) = then_some (same_exec x y) choice
 choice_for x _ = None
 
 -- the choice of the first Decide of x
@@ -58,7 +58,7 @@ accepted h x = option_map pair_of (accept_on x (acceptances h))
 
 -- the content that an accepted Finalize of x brings, where p was promised before
 abbrev pub accepted_content_for : ℕ → Exec → Body → Option Content
-accepted_content_for p x (Finalize y v d (Some c)) = then_some (same_exec x y && nat_le p v) c
+accepted_content_for p x (Finalize y view choice (Some c)) = then_some (same_exec x y && nat_le p view) c
 accepted_content_for p x _ = None
 
 -- the first content in an accepted Finalize of x

@@ -38,17 +38,17 @@ larger (Some q) p = Some (cond (nat_lt q.exec.eid p.exec.eid || (q.exec.eid == p
 
 -- what is kept of version v after a body came
 abbrev pub put_after : Version → Option Put → Body → Option Put
-put_after v o (Puts x ws) = cond (same_version v x.ver) (larger o (record { exec = x; writes = ws })) o
-put_after v o _ = o
+put_after version o (Puts x ws) = cond (same_version version x.ver) (larger o (record { exec = x; writes = ws })) o
+put_after version o _ = o
 
 -- the Puts of version v with the greatest eid and then length, the earliest of equals
 abbrev pub kept_put : Handled → Version → Option Put
-kept_put [] v = None
-kept_put (m ∷ h) v = put_after v (kept_put h v) m.body
+kept_put [] version = None
+kept_put (m ∷ h) version = put_after version (kept_put h version) m.body
 
 -- a version whose first Puts this is goes to the end
 abbrev pub put_version : List Version → Body → List Version
-put_version vs (Puts x ws) = cond (list_any (same_version x.ver) vs) vs (vs ++ x.ver ∷ [])
+put_version vs (Puts x writes) = cond (list_any (same_version x.ver) vs) vs (vs ++ x.ver ∷ [])
 put_version vs _ = vs
 
 -- the versions of which a Puts came, each once
@@ -58,7 +58,7 @@ put_versions (m ∷ h) = put_version (put_versions h) m.body
 
 -- the first Decide of an execution, if it is Abandon, abandons it
 abbrev pub new_abandon : Handled → Body → List Exec
-new_abandon h (Decide x Abandon c) = one_when (is_none (decided h x)) x
+new_abandon h (Decide x Abandon content) = one_when (is_none (decided h x)) x
 new_abandon h _ = []
 
 -- the executions that were decided Abandon, the newest first
@@ -68,8 +68,8 @@ abandons (m ∷ h) = new_abandon h m.body ++ abandons h
 
 -- a kept Puts counts where its execution is later than each of its version that was decided Abandon
 abbrev pub counting_put : Handled → Version → Option Put → Option Put
-counting_put h v None = None
-counting_put h v (Some p) = then_some (not (list_any (λ x. same_version v x.ver && nat_le p.exec.eid x.eid) (abandons h))) p
+counting_put h version None = None
+counting_put h version (Some p) = then_some (not (list_any (λ x. same_version version x.ver && nat_le p.exec.eid x.eid) (abandons h))) p
 
 -- what a counting Puts holds of the key, not sure
 abbrev pub last_put : Key → Option Put → Option Held
@@ -89,9 +89,9 @@ held firsts h k =
 
 -- the entry below v of the greatest write name, the first of equals
 abbrev pub best_below : Version → Held → List Held → Held
-best_below v b [] = b
-best_below v b (a ∷ more) = best_below v (cond (before a.wid.ver v && wid_before b.wid a.wid) a b) more
+best_below version b [] = b
+best_below version b (a ∷ more) = best_below version (cond (before a.wid.ver version && wid_before b.wid a.wid) a b) more
 
 -- what a reader at version v sees of k
 unfoldable pub latest : List First2 → Handled → Key → Version → Held
-latest firsts h k v = best_below v (first_held firsts k) (held firsts h k)
+latest firsts h k version = best_below version (first_held firsts k) (held firsts h k)

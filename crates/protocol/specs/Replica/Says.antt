@@ -22,13 +22,13 @@ sorted_kept (c ∷ cs) = put_kept c (sorted_kept cs)
 
 -- the committed contents at or below w, above the dropped version
 unfoldable pub committed_upto : Handled → Version → List Kept
-committed_upto h w = sorted_kept (filter (λ c. before (dropped h) c.exec.ver && not (before w c.exec.ver)) (commits h))
+committed_upto h version = sorted_kept (filter (λ c. before (dropped h) c.exec.ver && not (before version c.exec.ver)) (commits h))
 
 -- the undecided contents at or below w, above the dropped version, with a Commit vote
 unfoldable pub voted_upto : Handled → Version → List Kept
-voted_upto h w =
+voted_upto h version =
     sorted_kept (map (λ y. record { exec = y.exec; content = y.content })
-    (filter (λ y. (is_commit_vote y.vote && is_none (decided h y.exec)) && (before (dropped h) y.exec.ver && not (before w y.exec.ver))) (casts h)))
+    (filter (λ y. (is_commit_vote y.vote && is_none (decided h y.exec)) && (before (dropped h) y.exec.ver && not (before version y.exec.ver))) (casts h)))
 
 -- the answer to a Prepare
 abbrev pub vote_answer : Exec → Option Vote → List Body
@@ -37,15 +37,15 @@ vote_answer x (Some v) = Voted x v ∷ []
 
 -- the answer to a Get
 abbrev pub note_of : Version → Key → Held → Body
-note_of v k a = Note v k a.wid a.value a.sure None
+note_of version k a = Note version k a.wid a.value a.sure None
 
 -- what the sender of a body is answered, after h
 unfoldable pub answer : List First2 → Handled → Body → List Body
 answer firsts h (Get x k) = note_of x.ver k (latest firsts h k x.ver) ∷ []
-answer firsts h (Prepare x c) = map (λ y. Voted y.exec y.vote) (new_cast h (casts h) (Prepare x c))
-answer firsts h (Finalize x v d c) = one_when (nat_le (promised h x) v) (Accepted x v)
-answer firsts h (Ask x v) = one_when (nat_lt (promised h x) v) (Told x v (vote h x) (accepted h x) (decided h x) (known h x))
-answer firsts h (Fence w) = Fenced w (base h) (committed_upto h w) (voted_upto h w) ∷ []
+answer firsts h (Prepare x content) = map (λ y. Voted y.exec y.vote) (new_cast h (casts h) (Prepare x content))
+answer firsts h (Finalize x view choice content) = one_when (nat_le (promised h x) view) (Accepted x view)
+answer firsts h (Ask x view) = one_when (nat_lt (promised h x) view) (Told x view (vote h x) (accepted h x) (decided h x) (known h x))
+answer firsts h (Fence version) = Fenced version (base h) (committed_upto h version) (voted_upto h version) ∷ []
 answer firsts h _ = []
 
 -- about a version at or below the dropped one a replica says nothing, but that a Get comes too late

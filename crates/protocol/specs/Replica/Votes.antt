@@ -20,7 +20,7 @@ writes_key k ws = list_any (λ w. same_key k w.key) ws
 -- a transaction at version t with content c read a key from a version below x, and another at x, which is below t,
 -- wrote it: its read missed that write
 abbrev pub misses : Version → Content → Version → List Write → Bool
-misses t c x ws = before x t && list_any (λ r. before r.wid.ver x && writes_key r.key ws) c.reads
+misses t content x ws = before x t && list_any (λ r. before r.wid.ver x && writes_key r.key ws) content.reads
 
 -- a conflict of two contents: one missed a write of the other
 unfoldable pub conflicts : Version → Content → Version → Content → Bool
@@ -28,7 +28,7 @@ conflicts t c x d = misses t c x d.writes || misses x d t c.writes
 
 -- a base entry counts as a content at its version that writes its key
 unfoldable pub conflicts_with_base : Version → Content → BaseEntry → Bool
-conflicts_with_base t c b = misses t c b.wid.ver (record { key = b.key; value = b.value } ∷ [])
+conflicts_with_base version content b = misses version content b.wid.ver (record { key = b.key; value = b.value } ∷ [])
 
 -- the vote is Commit
 abbrev pub is_commit_vote : Vote → Bool
@@ -47,10 +47,10 @@ clashes_with_vote h x c y =
 
 -- the vote on x with content c, after h and these votes: the first case that holds
 unfoldable pub verdict : Handled → List Cast → Exec → Content → Vote
-verdict h casts x c =
+verdict h casts x content =
     cond (not (before (fence h) x.ver)) Tentative
-    (cond (list_any (clashes_with_commit h x c) (commits h) || list_any (conflicts_with_base x.ver c) (base h)) Final
-    (cond (list_any (clashes_with_vote h x c) casts) Tentative
+    (cond (list_any (clashes_with_commit h x content) (commits h) || list_any (conflicts_with_base x.ver content) (base h)) Final
+    (cond (list_any (clashes_with_vote h x content) casts) Tentative
     Commit))
 
 -- the vote that was cast on x

@@ -22,7 +22,7 @@ entries_of x i (w ∷ ws) = record { key = w.key; wid = record { ver = x.ver; ei
 
 -- the writes at or below w of the contents named as committed
 abbrev pub kept_entries : Version → List Kept → List BaseEntry
-kept_entries w cs = flat_map (λ (c : Kept). cond (before w c.exec.ver) [] (entries_of c.exec 1 c.content.writes)) cs
+kept_entries version cs = flat_map (λ (c : Kept). cond (before version c.exec.ver) [] (entries_of c.exec 1 c.content.writes)) cs
 
 -- the writes of a content, if there is one
 abbrev pub content_entries : Exec → Option Content → List BaseEntry
@@ -36,11 +36,11 @@ decided_entries_of x (Some d) = content_entries x d.proposal.content
 
 -- the writes at or below w of the contents named as voted that this warden decided Commit of
 abbrev pub decided_entries : Version → WardenState → List Kept → List BaseEntry
-decided_entries w s cs = flat_map (λ (c : Kept). cond (before w c.exec.ver) [] (decided_entries_of c.exec (decision_on s c.exec))) cs
+decided_entries version s cs = flat_map (λ (c : Kept). cond (before version c.exec.ver) [] (decided_entries_of c.exec (decision_on s c.exec))) cs
 
 -- the base: for each key, rising, the write of the greatest name among all these
 unfoldable pub base_of : Version → WardenState → List FencedAnswer → List BaseEntry
-base_of w s answers = put_entries []
+base_of version s answers = put_entries []
     (flat_map (λ (a : FencedAnswer). a.base) answers
-    ++ (flat_map (λ (a : FencedAnswer). kept_entries w a.committed) answers
-    ++ flat_map (λ (a : FencedAnswer). decided_entries w s a.voted) answers))
+    ++ (flat_map (λ (a : FencedAnswer). kept_entries version a.committed) answers
+    ++ flat_map (λ (a : FencedAnswer). decided_entries version s a.voted) answers))

@@ -17,13 +17,13 @@ used x (a ∷ rounds) = cond (same_exec x a.exec) (suc (used x rounds)) (used x 
 
 -- its lowest view not yet used for x: of W wardens the k-th has the views k, k + W, k + 2W and on
 unfoldable pub next_view : WardenRules → WardenState → Exec → ℕ
-next_view r s x = r.warden + used x s.rounds * r.wardens
+next_view rules s x = rules.warden + used x s.rounds * rules.wardens
 
 -- a warden asks all replicas in its next view
 unfoldable pub recover : WardenRules → WardenState → Exec → WardenTurn
-recover r s x = record {
-  state = record s { rounds = record { exec = x; view = next_view r s x; tolds = []; proposal = None; accepts = [] } ∷ s.rounds };
-  sent = To_all (Ask x (next_view r s x)) ∷ [];
+recover rules s x = record {
+  state = record s { rounds = record { exec = x; view = next_view rules s x; tolds = []; proposal = None; accepts = [] } ∷ s.rounds };
+  sent = To_all (Ask x (next_view rules s x)) ∷ [];
 }
 
 -- the first decision that is told
@@ -102,15 +102,15 @@ proposes s x v a = record {
 
 -- the first f+1 replicas whose Told of a view arrives fix its choice
 unfoldable pub take_told : WardenRules → WardenState → Exec → ℕ → ToldAnswer → Option Round → WardenTurn
-take_told r s x v t None = still s
-take_told r s x v t (Some a) =
+take_told rules s x v t None = still s
+take_told rules s x v t (Some a) =
     cond (not (is_none a.proposal && not (list_any (λ u. u.replica == t.replica) a.tolds))) (still s)
-    (cond (nat_le (quorum r.replicas) (suc (length a.tolds))) (proposes s x v (with_told a t))
+    (cond (nat_le (quorum rules.replicas) (suc (length a.tolds))) (proposes s x v (with_told a t))
     (still (round_put s x v (with_told a t))))
 
 -- the client of the version, where there is one
 abbrev pub to_client : WardenRules → Exec → Body → List Parcel
-to_client r x b = one_when (nat_lt 0 x.ver.client && nat_le x.ver.client r.clients) (To_client x.ver.client b)
+to_client rules x b = one_when (nat_lt 0 x.ver.client && nat_le x.ver.client rules.clients) (To_client x.ver.client b)
 
 -- one more replica accepted
 abbrev pub with_accept : Round → Proposal → ℕ → Round
@@ -118,23 +118,23 @@ with_accept a p j = record { exec = a.exec; view = a.view; tolds = a.tolds; prop
 
 -- what was proposed is decided: all replicas are told, then the client
 unfoldable pub decides : WardenRules → WardenState → Exec → ℕ → Round → Proposal → WardenTurn
-decides r s x v a p = record {
+decides rules s x v a p = record {
   state = record { rounds = with_round x v a s.rounds; decisions = record { exec = x; proposal = p } ∷ s.decisions; truncations = s.truncations };
-  sent = To_all (Decide x p.choice p.content) ∷ to_client r x (Decide x p.choice p.content);
+  sent = To_all (Decide x p.choice p.content) ∷ to_client rules x (Decide x p.choice p.content);
 }
 
 -- f+1 Accepted of a view decide what was proposed in it
 unfoldable pub count_accept : WardenRules → WardenState → Exec → ℕ → ℕ → Round → Option Proposal → WardenTurn
-count_accept r s x v j a None = still s
-count_accept r s x v j a (Some p) =
+count_accept rules s x v j a None = still s
+count_accept rules s x v j a (Some p) =
     cond (list_any (λ i. i == j) a.accepts) (still s)
-    (cond (nat_le (quorum r.replicas) (suc (length a.accepts))) (decides r s x v (with_accept a p j) p)
+    (cond (nat_le (quorum rules.replicas) (suc (length a.accepts))) (decides rules s x v (with_accept a p j) p)
     (still (round_put s x v (with_accept a p j))))
 
 -- an Accepted of a view in which this warden asked
 abbrev pub take_accept : WardenRules → WardenState → Exec → ℕ → ℕ → Option Round → WardenTurn
-take_accept r s x v j None = still s
-take_accept r s x v j (Some a) = count_accept r s x v j a a.proposal
+take_accept rules s x v j None = still s
+take_accept rules s x v j (Some a) = count_accept rules s x v j a a.proposal
 
 -- what counts comes from a replica
 abbrev pub heard : WardenState → (ℕ → WardenTurn) → Option ℕ → WardenTurn
@@ -143,9 +143,9 @@ heard s f (Some k) = f k
 
 -- about an execution that it has decided a warden takes no more Told and no more Accepted
 unfoldable pub recovery_hears : WardenRules → WardenState → NodeId → Body → WardenTurn
-recovery_hears r s from (Told x v vote accepted decided content) =
+recovery_hears rules s from (Told x view vote accepted decided content) =
     let told : ℕ → ToldAnswer = λ k. record { replica = k; vote = vote; accepted = accepted; decided = decided; content = content } in
-    cond (is_none (decision_on s x)) (heard s (λ k. take_told r s x v (told k) (round_of x v s.rounds)) (sender r.replicas from)) (still s)
-recovery_hears r s from (Accepted x v) =
-    cond (is_none (decision_on s x)) (heard s (λ k. take_accept r s x v k (round_of x v s.rounds)) (sender r.replicas from)) (still s)
-recovery_hears r s from _ = still s
+    cond (is_none (decision_on s x)) (heard s (λ k. take_told rules s x view (told k) (round_of x view s.rounds)) (sender rules.replicas from)) (still s)
+recovery_hears rules s from (Accepted x view) =
+    cond (is_none (decision_on s x)) (heard s (λ k. take_accept rules s x view k (round_of x view s.rounds)) (sender rules.replicas from)) (still s)
+recovery_hears rules s from _ = still s

@@ -9,16 +9,16 @@ use Rattle.protocol.specs.Warden.Truncation.{can_truncate, truncate, take_fenced
 
 -- a Fenced from a replica
 abbrev pub fenced_from : WardenRules → WardenTurn → Option ℕ → Body → WardenTurn
-fenced_from r u (Some k) (Fenced w b c v) = take_fenced r u w (record { replica = k; base = b; committed = c; voted = v }) u.state.truncations
-fenced_from r u _ _ = u
+fenced_from rules u (Some k) (Fenced version b c v) = take_fenced rules u version (record { replica = k; base = b; committed = c; voted = v }) u.state.truncations
+fenced_from rules u _ _ = u
 
 -- the newest truncation ends where it can
 abbrev pub finished : WardenRules → WardenTurn → WardenTurn
-finished r u = finish r u u.state.truncations
+finished rules u = finish rules u u.state.truncations
 
 -- a warden handles an envelope: recovery first, then the truncation
 unfoldable pub warden_hears : WardenRules → WardenState → NodeId → Body → WardenTurn
-warden_hears r s from b = finished r (fenced_from r (recovery_hears r s from b) (sender r.replicas from) b)
+warden_hears rules s from b = finished rules (fenced_from rules (recovery_hears rules s from b) (sender rules.replicas from) b)
 
 -- what can happen to a warden: it recovers an execution, it truncates, an envelope comes
 pub data WardenInput : Type 0 where
@@ -28,6 +28,6 @@ pub data WardenInput : Type 0 where
 
 -- what happens to a warden, where it can happen
 unfoldable pub warden_step : WardenRules → WardenState → WardenInput → Option WardenTurn
-warden_step r s (Recovers x) = then_some (is_none (decision_on s x)) (recover r s x)
-warden_step r s (Truncates w) = then_some (can_truncate s w) (truncate s w)
-warden_step r s (Hears from b) = Some (warden_hears r s from b)
+warden_step rules s (Recovers x) = then_some (is_none (decision_on s x)) (recover rules s x)
+warden_step rules s (Truncates version) = then_some (can_truncate s version) (truncate s version)
+warden_step rules s (Hears from b) = Some (warden_hears rules s from b)

@@ -15,12 +15,12 @@ under_way (t ∷ ts) = not t.dropped
 
 -- w is above 0.0 and above each version before
 abbrev pub is_next : Version → List Truncation → Bool
-is_next w [] = before no_version w
-is_next w (t ∷ ts) = before t.w w
+is_next version [] = before no_version version
+is_next version (t ∷ ts) = before t.w version
 
 -- at most one truncation at a time, each of a later version, and 16 in all
 abbrev pub can_truncate : WardenState → Version → Bool
-can_truncate s w = not (under_way s.truncations) && (is_next w s.truncations && nat_lt (length s.truncations) 16)
+can_truncate s version = not (under_way s.truncations) && (is_next version s.truncations && nat_lt (length s.truncations) 16)
 
 -- the warden with these truncations
 abbrev pub with_truncations : WardenState → List Truncation → WardenState
@@ -47,13 +47,13 @@ is_recovering s x = list_any (λ a. same_exec x a.exec) s.rounds
 
 -- x is recovered unless it is decided or being recovered
 abbrev pub recover_more : WardenRules → WardenTurn → Exec → Bool → WardenTurn
-recover_more r t x true = t
-recover_more r t x false = record { state = (recover r t.state x).state; sent = t.sent ++ (recover r t.state x).sent }
+recover_more rules t x true = t
+recover_more rules t x false = record { state = (recover rules t.state x).state; sent = t.sent ++ (recover rules t.state x).sent }
 
 -- one after another
 abbrev pub recover_all : WardenRules → WardenTurn → List Exec → WardenTurn
-recover_all r t [] = t
-recover_all r t (x ∷ xs) = recover_all r (recover_more r t x (is_some (decision_on t.state x) || is_recovering t.state x)) xs
+recover_all rules t [] = t
+recover_all rules t (x ∷ xs) = recover_all rules (recover_more rules t x (is_some (decision_on t.state x) || is_recovering t.state x)) xs
 
 -- one more Fenced counts
 abbrev pub counted : Truncation → FencedAnswer → List Truncation → List Truncation
@@ -61,9 +61,9 @@ counted t a ts = record { w = t.w; answers = t.answers ++ a ∷ []; dropped = fa
 
 -- a Fenced counts once per replica, for the truncation under way, until f+1 did
 abbrev pub is_counted : WardenRules → Truncation → Version → ℕ → Bool
-is_counted r t w k =
-    (not t.dropped && same_version w t.w)
-    && (nat_lt (length t.answers) (quorum r.replicas) && not (list_any (λ (b : FencedAnswer). b.replica == k) t.answers))
+is_counted rules t version k =
+    (not t.dropped && same_version version t.w)
+    && (nat_lt (length t.answers) (quorum rules.replicas) && not (list_any (λ (b : FencedAnswer). b.replica == k) t.answers))
 
 -- the turn with that Fenced counted
 abbrev pub with_fenced : WardenTurn → Truncation → FencedAnswer → List Truncation → WardenTurn
@@ -71,17 +71,17 @@ with_fenced u t a ts = record { state = with_truncations u.state (counted t a ts
 
 -- the first f+1 Fenced name what has to be recovered
 unfoldable pub take_fenced : WardenRules → WardenTurn → Version → FencedAnswer → List Truncation → WardenTurn
-take_fenced r u w a [] = u
-take_fenced r u w a (t ∷ ts) =
-    cond (not (is_counted r t w a.replica)) u
-    (cond (nat_le (quorum r.replicas) (suc (length t.answers))) (recover_all r (with_fenced u t a ts) (to_recover (t.answers ++ a ∷ [])))
+take_fenced rules u version a [] = u
+take_fenced rules u version a (t ∷ ts) =
+    cond (not (is_counted rules t version a.replica)) u
+    (cond (nat_le (quorum rules.replicas) (suc (length t.answers))) (recover_all rules (with_fenced u t a ts) (to_recover (t.answers ++ a ∷ [])))
     (with_fenced u t a ts))
 
 -- f+1 Fenced counted, and all that they name is decided
 abbrev pub is_finished : WardenRules → WardenState → Truncation → Bool
-is_finished r s t =
+is_finished rules s t =
     not t.dropped
-    && (nat_le (quorum r.replicas) (length t.answers) && list_all (λ x. is_some (decision_on s x)) (to_recover t.answers))
+    && (nat_le (quorum rules.replicas) (length t.answers) && list_all (λ x. is_some (decision_on s x)) (to_recover t.answers))
 
 -- its Drop was sent
 abbrev pub drop_sent : Truncation → Truncation
@@ -89,8 +89,8 @@ drop_sent t = record { w = t.w; answers = t.answers; dropped = true }
 
 -- then Drop goes to all, with the base
 unfoldable pub finish : WardenRules → WardenTurn → List Truncation → WardenTurn
-finish r u [] = u
-finish r u (t ∷ ts) =
-    cond (is_finished r u.state t)
+finish rules u [] = u
+finish rules u (t ∷ ts) =
+    cond (is_finished rules u.state t)
     (record { state = with_truncations u.state (drop_sent t ∷ ts); sent = u.sent ++ To_all (Drops t.w (base_of t.w u.state t.answers)) ∷ [] })
     u

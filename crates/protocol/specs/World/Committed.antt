@@ -42,16 +42,16 @@ sorted_committed (c ∷ cs) = put_committed c (sorted_committed cs)
 
 -- the try that its client began at a version
 abbrev pub attempt_at : World → Version → Option Attempt
-attempt_at w v = find (λ a. same_version v a.ver) (w.client v.client).attempts
+attempt_at w version = find (λ a. same_version version a.ver) (w.client version.client).attempts
 
 -- the execution x with content k as one of a try
 abbrev pub of_attempt : Exec → Content → Option Attempt → List CommittedExec
-of_attempt x k None = []
+of_attempt x content None = []
 of_attempt x k (Some a) = record { exec = x; content = k; txn = a.txn; try = a.try } ∷ []
 
 -- a Prepare of a committed execution tells its content
 abbrev pub committed_in : Plan → World → Body → List CommittedExec
-committed_in p w (Prepare x k) = cond (is_committed p w x) (of_attempt x k (attempt_at w x.ver)) []
+committed_in p w (Prepare x content) = cond (is_committed p w x) (of_attempt x content (attempt_at w x.ver)) []
 committed_in p w _ = []
 
 -- the committed executions by rising version and then number, each with the content of its Prepare, its transaction
@@ -66,4 +66,4 @@ kept_of c = record { exec = c.exec; content = c.content }
 -- the base of a world at v: rising by key, for each key with a write at or below v in a committed content the write
 -- of the greatest name
 unfoldable pub base_at : Plan → World → Version → List BaseEntry
-base_at p w v = put_entries [] (kept_entries v (map kept_of (committed_executions p w)))
+base_at p w version = put_entries [] (kept_entries version (map kept_of (committed_executions p w)))

@@ -87,7 +87,7 @@ pick_moves p w node Stop = Some (record { world = record w { stopped = w.stopped
 pick_moves p w (Client c) Go = client_input p w c Goes
 pick_moves p w (Client c) Hurry = client_input p w c Hurries
 pick_moves p w (Warden k) (Recover x) = warden_input p w k (Recovers x)
-pick_moves p w (Warden k) (Truncate v) = warden_input p w k (Truncates v)
+pick_moves p w (Warden k) (Truncate version) = warden_input p w k (Truncates version)
 pick_moves p w node _ = None
 
 -- what an event does, where its node can do it
