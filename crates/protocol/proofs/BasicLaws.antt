@@ -7,7 +7,7 @@ use Rattle.protocol.specs.Lists.{IsIn}
 use Rattle.protocol.specs.Replica.Taken.{Handled, takes, after_taking, dropped, fence}
 use Rattle.protocol.specs.Replica.Acceptor.{acceptances}
 use Rattle.protocol.specs.World.Events.{after, enabled, made, Move}
-use Rattle.protocol.specs.World.State.{Plan, World, first_world}
+use Rattle.protocol.specs.World.State.{Plan, World, first_world, mail_limit}
 use Rattle.protocol.specs.World.Decided.{UpTo}
 use Rattle.protocol.specs.World.Steps.{Happens}
 use Rattle.protocol.specs.World.Steps.Happens.{Stays, Client_moves, Replica_moves, Warden_moves}
@@ -130,13 +130,13 @@ pub events_move : EventsMove
 unfolding after
 events_move p w e = by_enabled (enabled p w e) refl
   where
-    by_room : (v : Move) → enabled p w e ≡ Some v → (t : Bool) → nat_le 200000 (length w.mail) ≡ t → made w (Some v) ≡ cond t w (record v.world { mail = w.mail ++ v.sent; moved = w.moved + 1 }) → EventOutcome p w e
+    by_room : (v : Move) → enabled p w e ≡ Some v → (t : Bool) → nat_le mail_limit (length w.mail) ≡ t → made w (Some v) ≡ cond t w (record v.world { mail = w.mail ++ v.sent; moved = w.moved + 1 }) → EventOutcome p w e
     by_room v q true f g = Refused v q (le_is _ _ f) (ap (made w) q ∙ g)
     by_room v q false f g = Moved v q (grind (arith, nat_tests)) (ap (made w) q ∙ g)
 
     by_enabled : (o : Option Move) → enabled p w e ≡ o → EventOutcome p w e
     by_enabled None q = Not_enabled q (ap (made w) q)
-    by_enabled (Some v) q = by_room v q (nat_le 200000 (length w.mail)) refl refl
+    by_enabled (Some v) q = by_room v q (nat_le mail_limit (length w.mail)) refl refl
 
 pub replays_join : ReplaysJoin
 replays_join p w [] more = refl

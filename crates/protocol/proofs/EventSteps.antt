@@ -11,7 +11,7 @@ use Rattle.protocol.specs.Client.Step.Input.{Goes, Runs, Hurries, Comes}
 use Rattle.protocol.specs.Warden.State.{WardenTurn}
 use Rattle.protocol.specs.Warden.Step.{WardenInput, warden_step}
 use Rattle.protocol.specs.Warden.Step.WardenInput.{Recovers, Truncates, Hears}
-use Rattle.protocol.specs.World.State.{Plan, World, exists, is_live, in_range, rules, warden_rules}
+use Rattle.protocol.specs.World.State.{Plan, World, mail_limit, exists, is_live, in_range, rules, warden_rules}
 use Rattle.protocol.specs.World.Events.{Move, client_moves, warden_moves, replica_moves, client_input, warden_input, receives, pick_moves, delivers, move_of, enabled, made, after, replay_from, mark}
 use Rattle.protocol.specs.World.Steps.{Came, Heard, Happens}
 use Rattle.protocol.specs.World.Steps.Happens.{Stays, Client_moves, Replica_moves, Warden_moves}
@@ -134,7 +134,7 @@ stays : (p : Plan) (w : World) → Happens p w w
 stays p w = Stays (record { client = refl; replica = refl; warden = refl; mail = refl })
 
 made_does : (p : Plan) (w : World) (v : Move) → Does p w v → Happens p w (made w (Some v))
-made_does p w v d = go (nat_le 200000 (length w.mail))
+made_does p w v d = go (nat_le mail_limit (length w.mail))
   where
     go : (t : Bool) → Happens p w (cond t w (record { client = v.world.client; replica = v.world.replica; warden = v.world.warden; mail = w.mail ++ v.sent; delivered = v.world.delivered; stopped = v.world.stopped; moved = w.moved + 1 }))
     go true = stays p w

@@ -6,7 +6,7 @@ use Rattle.protocol.specs.Quorums.{Quorum}
 use Rattle.protocol.specs.Replica.Taken.{Handled, dropped, fence}
 use Rattle.protocol.specs.Replica.Acceptor.{Acceptance, acceptances, decided, promised}
 use Rattle.protocol.specs.Replica.Votes.{vote}
-use Rattle.protocol.specs.World.State.{Plan, World, first_world}
+use Rattle.protocol.specs.World.State.{Plan, World, first_world, mail_limit}
 use Rattle.protocol.specs.World.Events.{Move, enabled, after, replay_from}
 use Rattle.protocol.specs.World.Decided.{UpTo}
 use Rattle.protocol.specs.World.Steps.{Happens}
@@ -46,8 +46,8 @@ EventsStep = (p : Plan) (w : World) (e : Event) → Happens p w (after p w e)
 -- what it sends goes to the end of the mail
 pub data EventOutcome (p : Plan) (w : World) (e : Event) : Type 0 where
   Not_enabled : enabled p w e ≡ None → after p w e ≡ w → EventOutcome p w e
-  Refused : (v : Move) → enabled p w e ≡ Some v → 200000 ≤ length w.mail → after p w e ≡ w → EventOutcome p w e
-  Moved : (v : Move) → enabled p w e ≡ Some v → length w.mail < 200000 → after p w e ≡ record v.world { mail = w.mail ++ v.sent; moved = w.moved + 1 } → EventOutcome p w e
+  Refused : (v : Move) → enabled p w e ≡ Some v → mail_limit ≤ length w.mail → after p w e ≡ w → EventOutcome p w e
+  Moved : (v : Move) → enabled p w e ≡ Some v → length w.mail < mail_limit → after p w e ≡ record v.world { mail = w.mail ++ v.sent; moved = w.moved + 1 } → EventOutcome p w e
 
 abbrev pub EventsMove : Type 0
 EventsMove = (p : Plan) (w : World) (e : Event) → EventOutcome p w e

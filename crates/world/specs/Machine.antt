@@ -4,7 +4,7 @@ use Rattle.std.specs.List.{list_any, slice_get}
 use Rattle.protocol.specs.Words.{NodeId, Client, Warden, Exec, same_node, same_exec, exec_before, Envelope, Body, Puts, Prepare, Decide, Event, Picked, Go, Hurry}
 use Rattle.protocol.specs.Lists.{one_when}
 use Rattle.protocol.specs.Client.Attempts.{has_pending}
-use Rattle.protocol.specs.World.State.{Plan, World, first_world, is_live}
+use Rattle.protocol.specs.World.State.{Plan, World, first_world, mail_limit, is_live}
 use Rattle.protocol.specs.World.Events.{Move, enabled, after}
 use Rattle.protocol.specs.World.Committed.{nodes}
 use Rattle.net_core.specs.Machine.{History, Machine, Menu, Effect, Moves, Refused, Not_enabled}
@@ -22,7 +22,7 @@ effect_of (Some v) false = Moves
 
 -- what an event does in a world
 unfoldable pub effect_in : Plan → World → Event → Effect
-effect_in p w e = effect_of (enabled p w e) (nat_le 200000 (length w.mail))
+effect_in p w e = effect_of (enabled p w e) (nat_le mail_limit (length w.mail))
 
 -- the node is a client with a pending job
 abbrev pub is_pending : World → NodeId → Bool

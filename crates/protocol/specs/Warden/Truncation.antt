@@ -18,9 +18,13 @@ abbrev pub is_next : Version → List Truncation → Bool
 is_next version [] = before no_version version
 is_next version (t ∷ ts) = before t.w version
 
--- at most one truncation at a time, each of a later version, and 16 in all
+-- how many truncations a warden makes at most
+abbrev pub truncation_limit : ℕ
+truncation_limit = 16
+
+-- at most one truncation at a time, each of a later version, and so many in all
 abbrev pub can_truncate : WardenState → Version → Bool
-can_truncate s version = not (under_way s.truncations) && (is_next version s.truncations && nat_lt (length s.truncations) 16)
+can_truncate s version = not (under_way s.truncations) && (is_next version s.truncations && nat_lt (length s.truncations) truncation_limit)
 
 -- the warden with these truncations
 abbrev pub with_truncations : WardenState → List Truncation → WardenState

@@ -12,7 +12,7 @@ use Rattle.protocol.specs.Warden.State.{WardenTurn, Parcel}
 use Rattle.protocol.specs.Warden.Step.{WardenInput, warden_step}
 use Rattle.protocol.specs.Warden.Step.WardenInput.{Recovers, Truncates, Hears}
 use Rattle.protocol.specs.Warden.State.Parcel.{To_all, To_client}
-use Rattle.protocol.specs.World.State.{Plan, World, is_live, rules, warden_rules}
+use Rattle.protocol.specs.World.State.{Plan, World, mail_limit, is_live, rules, warden_rules}
 
 -- f with another value at k
 abbrev pub at {ℓ} : {A : Type ℓ} → ℕ → A → (ℕ → A) → ℕ → A
@@ -99,11 +99,11 @@ move_of p w (Ran c) = client_input p w c Runs
 unfoldable pub enabled : Plan → World → Event → Option Move
 enabled p w e = cond (is_live p w (node_of e)) (move_of p w e) None
 
--- with 200,000 envelopes sent the mail is full, and nothing moves the world any more
+-- at its limit the mail is full, and nothing moves the world any more
 abbrev pub made : World → Option Move → World
 made w None = w
 made w (Some v) =
-    cond (nat_le 200000 (length w.mail)) w
+    cond (nat_le mail_limit (length w.mail)) w
     (record v.world { mail = w.mail ++ v.sent; moved = w.moved + 1 })
 
 -- the world after an event: one that is not enabled, or is refused for the mail, changes nothing

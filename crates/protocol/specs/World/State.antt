@@ -17,6 +17,10 @@ pub record Plan : Type 0 where
   pub execs : ℕ
   pub gap : ℕ
 
+-- how many envelopes the mail has room for: from then on nothing moves the world
+abbrev pub mail_limit : ℕ
+mail_limit = 200000
+
 -- a record or list per node, the mail in order of sending, which of it was delivered, in order of first delivery,
 -- which nodes are stopped, and how many events moved the world
 pub record World : Type 0 where
