@@ -1,1 +1,3 @@
-pub mod Takes
+pub mod CellLemmas
+pub mod VotesStand
+pub mod DecisionsStand

@@ -1,11 +1,17 @@
 //! What a replica keeps of one execution to have it decided: the promised view, its vote, the pair that it accepted, and
 //! the decision.
+//!
+//! Read `specs/Cell` first: `StandsFor` says what a cell tells of the list of all that its replica handled. Each call
+//! then says that the new cell stands for the list with one more envelope, an Ask or a Finalize, and what is answered.
+//! `specs/Laws` says the same of a Prepare and a Decide, and that no other envelope changes the cell. The proofs follow:
+//! `CellLemmas`, then one file for each law.
 #![tactic(auto)]
 
 ghost use Rattle.std.specs.Prelude.{◌≡◌, ◌<◌, ◌≤◌, ◌↔◌, [], IsTrue, IsNone, IfNone, OnSome, IfSome};
 ghost use Rattle.std.specs.Bool.{OnTrue, OnFalse};
 ghost use Rattle.morty_base.specs.declared.names.Exec.{Exec as Execution};
-ghost use Rattle.view_cell.specs.Cells.{IsCellOf, AskLeadsTo, TellsAsk, FinalizeLeadsTo, TellsFinalize, told_of, with_pair, VotesStand, DecisionsStand, OthersLeaveIt};
+ghost use Rattle.view_cell.specs.Cell.{StandsFor, AskLeadsTo, TellsAsk, FinalizeLeadsTo, TellsFinalize, told_of, with_pair};
+ghost use Rattle.view_cell.specs.Laws.{VotesStand, DecisionsStand, OthersLeaveIt};
 
 use msg::{Accept, Choice, Vote};
 
@@ -30,7 +36,7 @@ pub struct ToldPart {
 impl Cell {
     /// The cell of an execution of which nothing came. View 0 needs no promise.
     pub fn new() -> Cell
-        ensures { (x : Execution) → IsCellOf [] x result }
+        ensures { (x : Execution) → StandsFor [] x result }
     {
         Cell {
             promised: 0,

@@ -1,4 +1,5 @@
-use Rattle.view_cell.proofs.Takes.{decisions_stand}
+-- The law on decisions.
+use Rattle.view_cell.proofs.DecisionsStand.{decisions_stand}
 use Rattle.view_cell.proofs.decisions_stand.Goals as goal
 
 pub returns : goal.returns

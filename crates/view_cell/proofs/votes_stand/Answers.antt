@@ -1,4 +1,5 @@
-use Rattle.view_cell.proofs.Takes.{votes_stand}
+-- The law on votes.
+use Rattle.view_cell.proofs.VotesStand.{votes_stand}
 use Rattle.view_cell.proofs.votes_stand.Goals as goal
 
 pub returns : goal.returns

@@ -1,4 +1,5 @@
-use Rattle.view_cell.proofs.Takes.{finalize_taken, finalize_answered, finalize_unanswered}
+-- What an acceptance leaves and tells is what a Finalize does to a replica's list.
+use Rattle.view_cell.proofs.CellLemmas.{finalize_taken, finalize_answered, finalize_unanswered}
 use Rattle.view_cell.proofs.Cell.accept.Goals as goal
 
 pub returns-then-view-self-clause-answer : goal.returns-then-view-self-clause-answer

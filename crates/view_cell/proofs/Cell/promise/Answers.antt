@@ -1,4 +1,5 @@
-use Rattle.view_cell.proofs.Takes.{ask_taken, ask_told, ask_unanswered}
+-- What a promise leaves and tells is what an Ask does to a replica's list.
+use Rattle.view_cell.proofs.CellLemmas.{ask_taken, ask_told, ask_unanswered}
 use Rattle.view_cell.proofs.Cell.promise.Goals as goal
 
 pub returns-then-view-self-clause-answer : goal.returns-then-view-self-clause-answer

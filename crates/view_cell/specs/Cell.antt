@@ -1,18 +1,17 @@
 -- A cell as what a replica's list says of one execution.
-use Rattle.std.specs.Prelude.{◌≡◌, ℕ, Bool, false, cond, ◌&&◌, ◌==◌, List, [], ◌∷◌, Option, Some, None, is_none}
-use Rattle.protocol.specs.Words.{Exec, NodeId, same_exec, Vote, Choice, Content, Envelope, Body, Prepare, Finalize, Accepted, Decide, Ask, Told}
-use Rattle.std.specs.Option.{option_or}
+use Rattle.std.specs.Prelude.{◌≡◌, ℕ, Bool, cond, ◌&&◌, ◌==◌, List, [], ◌∷◌, Option, Some, None, is_none}
+use Rattle.protocol.specs.Words.{Exec, NodeId, Vote, Choice, Content, Body, Finalize, Accepted, Ask, Told}
 use Rattle.protocol.specs.Lists.{one_when}
 use Rattle.protocol.specs.Replica.Taken.{Handled}
 use Rattle.protocol.specs.Replica.Acceptor.{promised, accepted, decided}
-use Rattle.protocol.specs.Replica.Votes.{vote, casts, known, verdict}
+use Rattle.protocol.specs.Replica.Votes.{vote, known}
 use Rattle.protocol.specs.Replica.Says.{answer}
 use Rattle.protocol.specs.declared.First2.{First2}
 use Rattle.view_cell.specs.declared.Cell.{Cell}
 use Rattle.view_cell.specs.declared.ToldPart.{ToldPart}
 
 -- the cell is that of execution x after the list h
-pub record IsCellOf (h : Handled) (x : Exec) (c : Cell) : Type 0 where
+pub record StandsFor (h : Handled) (x : Exec) (c : Cell) : Type 0 where
   pub promise : c.promised ≡ promised h x
   pub vote : c.vote ≡ vote h x
   pub accept : c.accepted ≡ accepted h x
@@ -28,8 +27,8 @@ with_pair c view choice = record c { promised = view; accepted = Some (record { 
 
 -- the cell of an execution becomes the new one when an Ask of that execution in the view comes
 abbrev pub AskLeadsTo : ℕ → Cell → Cell → Type 0
-AskLeadsTo view old new = (h : Handled) (x : Exec) (from to : NodeId) → IsCellOf h x old →
-    IsCellOf (record { from = from; to = to; body = Ask x view } ∷ h) x new
+AskLeadsTo view old new = (h : Handled) (x : Exec) (from to : NodeId) → StandsFor h x old →
+    StandsFor (record { from = from; to = to; body = Ask x view } ∷ h) x new
 
 -- the answer to an Ask that was promised this, from a replica that knows this content
 abbrev pub told : Exec → ℕ → Option ToldPart → Option Content → List Body
@@ -38,17 +37,17 @@ told x view None content = []
 
 -- an Ask in the view is answered with what the cell tells
 abbrev pub TellsAsk : ℕ → Cell → Option ToldPart → Type 0
-TellsAsk view old part = (firsts : List First2) (h : Handled) (x : Exec) → IsCellOf h x old →
+TellsAsk view old part = (firsts : List First2) (h : Handled) (x : Exec) → StandsFor h x old →
     answer firsts h (Ask x view) ≡ told x view part (known h x)
 
 -- the cell of an execution becomes the new one when a Finalize of that execution with this view and choice comes
 abbrev pub FinalizeLeadsTo : ℕ → Choice → Cell → Cell → Type 0
-FinalizeLeadsTo view choice old new = (h : Handled) (x : Exec) (content : Option Content) (from to : NodeId) → IsCellOf h x old →
-    IsCellOf (record { from = from; to = to; body = Finalize x view choice content } ∷ h) x new
+FinalizeLeadsTo view choice old new = (h : Handled) (x : Exec) (content : Option Content) (from to : NodeId) → StandsFor h x old →
+    StandsFor (record { from = from; to = to; body = Finalize x view choice content } ∷ h) x new
 
 -- a Finalize is answered with Accepted exactly where the cell takes it
 abbrev pub TellsFinalize : ℕ → Choice → Cell → Bool → Type 0
-TellsFinalize view choice old taken = (firsts : List First2) (h : Handled) (x : Exec) (content : Option Content) → IsCellOf h x old →
+TellsFinalize view choice old taken = (firsts : List First2) (h : Handled) (x : Exec) (content : Option Content) → StandsFor h x old →
     answer firsts h (Finalize x view choice content) ≡ one_when taken (Accepted x view)
 
 -- no view above 0 is promised, no vote is cast and nothing is decided
@@ -58,25 +57,3 @@ open_to_vote c = (c.promised == 0) && (is_none c.vote && is_none c.decided)
 -- the cell with the vote, where it is open to one
 abbrev pub with_vote : Cell → Vote → Cell
 with_vote c v = cond (open_to_vote c) (record c { vote = Some v }) c
-
--- a Prepare of x brings its cell the vote by the rule on votes
-abbrev pub VotesStand : Type 0
-VotesStand = (h : Handled) (x : Exec) (c : Cell) (content : Content) (from to : NodeId) → IsCellOf h x c →
-    IsCellOf (record { from = from; to = to; body = Prepare x content } ∷ h) x (with_vote c (verdict h (casts h) x content))
-
--- a Decide of x brings its cell the decision, unless one stands
-abbrev pub DecisionsStand : Type 0
-DecisionsStand = (h : Handled) (x : Exec) (c : Cell) (choice : Choice) (content : Option Content) (from to : NodeId) → IsCellOf h x c →
-    IsCellOf (record { from = from; to = to; body = Decide x choice content } ∷ h) x (record c { decided = option_or c.decided (Some choice) })
-
--- the body votes, proposes, decides or asks for a promise on x
-abbrev pub may_change : Exec → Body → Bool
-may_change x (Prepare y c) = same_exec x y
-may_change x (Finalize y v d c) = same_exec x y
-may_change x (Decide y d c) = same_exec x y
-may_change x (Ask y v) = same_exec x y
-may_change x _ = false
-
--- any other envelope leaves the cell of x as it is
-abbrev pub OthersLeaveIt : Type 0
-OthersLeaveIt = (h : Handled) (x : Exec) (c : Cell) (m : Envelope) → may_change x m.body ≡ false → IsCellOf h x c → IsCellOf (m ∷ h) x c
