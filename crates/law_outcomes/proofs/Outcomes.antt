@@ -10,8 +10,8 @@ use Rattle.protocol.specs.World.State.{World, first_world}
 use Rattle.protocol.specs.World.Events.{replay_from}
 use Rattle.protocol.specs.World.Committed.{committed_executions}
 use Rattle.protocol_plans.specs.Scripted.{Scripted, plan_of}
-use Rattle.law_safety.proofs.Agreed.{agreement}
-use Rattle.law_safety.proofs.Tried.{one_execution}
+use Rattle.law_safety.proofs.InvariantHolds.{agreement}
+use Rattle.law_safety.proofs.OneExecution.{one_execution}
 use Rattle.protocol_plans.specs.SerialOutcome.{first_map, programs_of, map_of, IsSerial}
 use Rattle.law_serial.proofs.Serial.{serial_reads}
 use Rattle.world.specs.Rows.{rows_of, keys_of, sorted_keys}

@@ -20,8 +20,8 @@ use Rattle.protocol.proofs.TestLemmas.{eqb_is}
 use Rattle.protocol.proofs.ListsLemmas.{IsIn-cases}
 use Rattle.protocol.proofs.NamesLemmas.{same_version_tells, same_exec_tells, key_itself}
 use Rattle.std.proofs.lemmas.Bool.Decides.{nat_tests}
-use Rattle.law_steps.proofs.Dropped.{true_false}
-use Rattle.law_steps.proofs.Votes.{any_true}
+use Rattle.law_steps.proofs.TakenLemmas.{true_false}
+use Rattle.law_steps.proofs.VotesLemmas.{any_true}
 use Rattle.law_progress.proofs.Tallies.{AllCommit, IsCounted, commits_or_waits}
 
 -- an answer that is a first value

@@ -14,12 +14,12 @@ use Rattle.protocol.specs.World.Events.{to_all, after, replay_from}
 use Rattle.protocol.proofs.TestLemmas.{and_left, and_right, le_is, lt_is}
 use Rattle.protocol.proofs.ListsLemmas.{at_same, at_other}
 use Rattle.protocol.proofs.EventSteps.{after_happens}
-use Rattle.law_steps.proofs.Acts.{IsUnderWay}
+use Rattle.law_steps.proofs.ClientActs.{IsUnderWay}
 use Rattle.law_steps.proofs.Reach.{Reach, From, from_trans, events_reach, happens_reach}
 use Rattle.law_steps.proofs.Reach.From.{Begins, Next}
-use Rattle.law_safety.proofs.Based.{sent_later, sent_committed}
-use Rattle.law_safety.proofs.Cuts.{CommitSent}
-use Rattle.law_safety.proofs.Tried.{try_rec, kept_attempt}
+use Rattle.law_safety.proofs.BaseOfDrop.{sent_later, sent_committed}
+use Rattle.law_safety.proofs.TruncationSettles.{CommitSent}
+use Rattle.law_safety.proofs.OneExecution.{try_rec, kept_attempt}
 use Rattle.law_progress.specs.Apart.{IsNamed, IsApart}
 use Rattle.law_progress.specs.First.{HasBegun, IsFirstCommit}
 use Rattle.law_progress.specs.Undisturbed.{IsUndisturbed, IsSettled}

@@ -12,13 +12,13 @@ use Rattle.protocol.specs.Client.State.{Attempt}
 use Rattle.protocol.specs.Client.Step.{is_warden}
 use Rattle.protocol.specs.World.State.{Plan, World}
 use Rattle.protocol.specs.World.Decided.{WasSent}
-use Rattle.law_steps.proofs.Dropped.{true_false}
-use Rattle.law_steps.proofs.Facts.{RFact, facts_reach}
-use Rattle.law_steps.proofs.Mail.{took_reach}
-use Rattle.law_steps.proofs.Phases.{warden_is}
+use Rattle.law_steps.proofs.TakenLemmas.{true_false}
+use Rattle.law_steps.proofs.ReplicaFacts.{RFact, facts_reach}
+use Rattle.law_steps.proofs.MailLemmas.{took_reach}
+use Rattle.law_steps.proofs.PhaseLemmas.{warden_is}
 use Rattle.law_steps.proofs.Reach.{Reach}
 use Rattle.law_steps.proofs.ClientFacts.{CFact, client_facts_reach}
-use Rattle.law_safety.proofs.Locks.{cast_found}
+use Rattle.law_safety.proofs.LocksLemmas.{cast_found}
 use Rattle.law_progress.specs.Apart.{IsApart, IsNamed}
 use Rattle.law_progress.proofs.Calm.{IsCalm}
 use Rattle.law_progress.proofs.Replicas.{own, sees_first, casts_commit, tame_mail, tame_dropped}

@@ -19,12 +19,12 @@ use Rattle.protocol.specs.World.State.{Plan, World, rules}
 use Rattle.protocol.specs.World.Events.{to_all}
 use Rattle.protocol.proofs.ListsLemmas.{IsIn-left, IsIn-right, IsIn-cases}
 use Rattle.protocol.proofs.EventSteps.{IsIn-get}
-use Rattle.law_steps.proofs.Acts.{IsRunning}
+use Rattle.law_steps.proofs.ClientActs.{IsRunning}
 use Rattle.law_steps.proofs.Reach.{Reach}
 use Rattle.law_steps.proofs.ClientFacts.{At, HasPrepared}
-use Rattle.law_safety.proofs.Locks.{voted_prepared}
-use Rattle.law_safety.proofs.One.{prepare_from, not_at, running_between, running_prepared}
-use Rattle.law_safety.proofs.Cuts.{CommitSent}
+use Rattle.law_safety.proofs.LocksLemmas.{voted_prepared}
+use Rattle.law_safety.proofs.OneProposal.{prepare_from, not_at, running_between, running_prepared}
+use Rattle.law_safety.proofs.TruncationSettles.{CommitSent}
 use Rattle.law_progress.proofs.Calm.{IsCalm}
 use Rattle.law_progress.proofs.Steps.{Takes, Acts}
 use Rattle.law_progress.proofs.Messages.{IsOurs, no_warden, note_first, not_old, vote_commits}

@@ -17,23 +17,23 @@ use Rattle.protocol.specs.World.Decided.{WasSent, IsOf}
 use Rattle.protocol.proofs.TestLemmas.{and_left, and_right}
 use Rattle.protocol.proofs.ListsLemmas.{IsIn-cases, at_same}
 use Rattle.protocol.proofs.NamesLemmas.{key_is}
-use Rattle.law_steps.proofs.Dropped.{before_self, true_false, no_base, cast_is}
-use Rattle.law_steps.proofs.Facts.{RFact, facts_reach}
-use Rattle.law_steps.proofs.Known.{commit_taken, cast_taken}
-use Rattle.law_steps.proofs.Acts.{IsRunning}
-use Rattle.law_steps.proofs.Phases.{running_under_way}
+use Rattle.law_steps.proofs.TakenLemmas.{before_self, true_false, no_base, cast_is}
+use Rattle.law_steps.proofs.ReplicaFacts.{RFact, facts_reach}
+use Rattle.law_steps.proofs.KnownLemmas.{commit_taken, cast_taken}
+use Rattle.law_steps.proofs.ClientActs.{IsRunning}
+use Rattle.law_steps.proofs.PhaseLemmas.{running_under_way}
 use Rattle.law_steps.proofs.Reach.{Reach}
 use Rattle.law_steps.proofs.Reach.From.{Begins, Next}
 use Rattle.law_steps.proofs.ClientFacts.{CFact, client_facts_reach, rec_reach}
-use Rattle.law_steps.proofs.Votes.{any_true}
-use Rattle.law_safety.proofs.Contents.{contents_reach}
-use Rattle.law_safety.proofs.Stays.{Origin, origin}
-use Rattle.law_safety.proofs.Stays.Origin.{Old, Of_replica, Of_client, Of_warden}
-use Rattle.law_safety.proofs.Tried.{try_rec, kept_attempt}
-use Rattle.law_safety.proofs.Holding.{latest_is}
-use Rattle.law_safety.proofs.Holding.{HeldCase, kept_taken}
-use Rattle.law_safety.proofs.Holding.HeldCase.{Is_first, Of_base, Of_commit, Of_put}
-use Rattle.law_safety.proofs.Replayed.{replayed}
+use Rattle.law_steps.proofs.VotesLemmas.{any_true}
+use Rattle.law_safety.proofs.OneContent.{contents_reach}
+use Rattle.law_safety.proofs.LocksStay.{Origin, origin}
+use Rattle.law_safety.proofs.LocksStay.Origin.{Old, Of_replica, Of_client, Of_warden}
+use Rattle.law_safety.proofs.OneExecution.{try_rec, kept_attempt}
+use Rattle.law_safety.proofs.HeldLemmas.{latest_is}
+use Rattle.law_safety.proofs.HeldLemmas.{HeldCase, kept_taken}
+use Rattle.law_safety.proofs.HeldLemmas.HeldCase.{Is_first, Of_base, Of_commit, Of_put}
+use Rattle.law_safety.proofs.ContentsReplayed.{replayed}
 use Rattle.law_progress.specs.Apart.{HasReadOf, HasWriteOf, Names, IsNamed, IsApart}
 use Rattle.law_progress.proofs.Calm.{IsCalm}
 

@@ -21,16 +21,16 @@ use Rattle.protocol.specs.World.Decided.{WasSent}
 use Rattle.protocol.proofs.ListsLemmas.{map_in, flat_map_in, at_same, at_other}
 use Rattle.protocol.proofs.EventSteps.{IsIn-get}
 use Rattle.law_steps.specs.Executions.{Over}
-use Rattle.law_steps.proofs.Acts.{IsUnderWay}
-use Rattle.law_steps.proofs.Facts.{RFact, facts_reach}
-use Rattle.law_steps.proofs.Mail.{took_reach}
+use Rattle.law_steps.proofs.ClientActs.{IsUnderWay}
+use Rattle.law_steps.proofs.ReplicaFacts.{RFact, facts_reach}
+use Rattle.law_steps.proofs.MailLemmas.{took_reach}
 use Rattle.law_steps.proofs.Reach.{Reach}
 use Rattle.law_steps.proofs.ClientFacts.{CFact, client_facts_reach, rec_reach}
-use Rattle.law_steps.proofs.Votes.{new_vote}
-use Rattle.law_safety.proofs.One.{prepare_from, earlier_itself}
-use Rattle.law_safety.proofs.Cuts.{CommitSent}
-use Rattle.law_safety.proofs.Evidence.{upto_in}
-use Rattle.law_safety.proofs.WardEvidence.{decided_sent}
+use Rattle.law_steps.proofs.VotesLemmas.{new_vote}
+use Rattle.law_safety.proofs.OneProposal.{prepare_from, earlier_itself}
+use Rattle.law_safety.proofs.TruncationSettles.{CommitSent}
+use Rattle.law_safety.proofs.ClientEvidence.{upto_in}
+use Rattle.law_safety.proofs.WardenEvidence.{decided_sent}
 use Rattle.law_progress.proofs.Replies.{says_note, says_vote}
 use Rattle.law_progress.proofs.Calm.{IsCalm}
 use Rattle.law_progress.proofs.Steps.{Takes}

@@ -12,9 +12,9 @@ use Rattle.protocol.specs.Replica.Says.{says, answer, refusal}
 use Rattle.protocol.specs.World.State.{Plan, World}
 use Rattle.protocol.proofs.TestLemmas.{and_right}
 use Rattle.protocol.proofs.ListsLemmas.{IsIn-cases, IsIn-map, IsIn-flat_map, IsIn-one_when}
-use Rattle.law_steps.proofs.Phases.{not_true}
+use Rattle.law_steps.proofs.PhaseLemmas.{not_true}
 use Rattle.law_steps.proofs.Reach.{Reach}
-use Rattle.law_steps.proofs.Provenance.{ReplicasSaid, replicas_said_reach}
+use Rattle.law_steps.proofs.Induction.{ReplicasSaid, replicas_said_reach}
 
 -- each envelope of g is one of h
 abbrev pub Within : Handled → Handled → Type 0

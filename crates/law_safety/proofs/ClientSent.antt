@@ -8,8 +8,8 @@ use Rattle.protocol.specs.Quorums.{quorum}
 use Rattle.protocol.specs.Client.Counting.{count_votes}
 use Rattle.protocol.specs.Client.Deciding.{content_for}
 use Rattle.protocol.specs.Client.State.Phase.{Between, Prepared}
-use Rattle.law_steps.proofs.Acts.{Act, IsQuiet, AllQuiet, IsRunning, Reason}
-use Rattle.law_steps.proofs.Acts.Act.{Quiet, Advances, Prepares, Counts, Proposes, Accepts, Decides, Gives_up, Learns}
+use Rattle.law_steps.proofs.ClientActs.{Act, IsQuiet, AllQuiet, IsRunning, Reason}
+use Rattle.law_steps.proofs.ClientActs.Act.{Quiet, Advances, Prepares, Counts, Proposes, Accepts, Decides, Gives_up, Learns}
 
 -- what a client proposed
 pub record ProposalOf (n : ℕ) (s : ClientState) (x : Exec) (v : ℕ) (d : Choice) : Type 0 where

@@ -2,22 +2,22 @@ use Rattle.std.proofs.Common.{◌≡◌, ℕ, ◌+◌, ◌*◌, inl, inr, refl, 
 use Rattle.protocol.specs.Words.{Exec, NodeId, Client, Replica, Warden, Vote, Final, Choice, Content, Finalize, Voted, Abandon, Event}
 use Rattle.protocol.specs.Replica.Votes.{vote, casts}
 use Rattle.protocol.specs.World.Decided.{WasSent, WasSentBy}
-use Rattle.law_steps.proofs.Facts.{RFact, facts_reach}
+use Rattle.law_steps.proofs.ReplicaFacts.{RFact, facts_reach}
 use Rattle.law_steps.proofs.ClientFacts.{CFact, client_facts_reach}
-use Rattle.law_steps.proofs.WardFacts.{WFact, ward_facts_reach}
-use Rattle.law_safety.proofs.Spoke.{spoke_reach}
+use Rattle.law_steps.proofs.WardenFacts.{WFact, ward_facts_reach}
+use Rattle.law_safety.proofs.AnswersTell.{spoke_reach}
 use Rattle.protocol.specs.World.State.{Plan, World, first_world}
 use Rattle.protocol.specs.World.Events.{replay_from}
 use Rattle.law_safety.specs.Invariants.{OneContent, CommitNeedsVotes, AbandonProposals, Views, LocksHold, AnswersTell, CommitIsSent}
 use Rattle.law_steps.proofs.Reach.{Reach, events_reach}
 use Rattle.law_steps.proofs.Reach.From.{Begins}
-use Rattle.law_safety.proofs.One.{one_view, final_from, FinalFrom, warden_view}
-use Rattle.law_safety.proofs.One.FinalFrom.{By_client, By_warden}
-use Rattle.law_safety.proofs.Locks.{carried, locks_clash, cast_found}
-use Rattle.law_safety.proofs.Contents.{contents_reach}
-use Rattle.law_safety.proofs.Cuts.{one_content as same_prepared}
-use Rattle.law_safety.proofs.Agreed.{safe_reach, decided_by_sent}
-use Rattle.law_safety.proofs.Based.{committed_sent, sent_committed}
+use Rattle.law_safety.proofs.OneProposal.{one_view, final_from, FinalFrom, warden_view}
+use Rattle.law_safety.proofs.OneProposal.FinalFrom.{By_client, By_warden}
+use Rattle.law_safety.proofs.LocksLemmas.{carried, locks_clash, cast_found}
+use Rattle.law_safety.proofs.OneContent.{contents_reach}
+use Rattle.law_safety.proofs.TruncationSettles.{one_content as same_prepared}
+use Rattle.law_safety.proofs.InvariantHolds.{safe_reach, decided_by_sent}
+use Rattle.law_safety.proofs.BaseOfDrop.{committed_sent, sent_committed}
 
 reached : (p : Plan) (events : List Event) → Reach p (replay_from p first_world events)
 reached p events = events_reach p first_world first_world Begins events

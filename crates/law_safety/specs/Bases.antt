@@ -12,7 +12,7 @@ use Rattle.protocol.specs.World.Events.{replay_from}
 use Rattle.protocol.specs.World.Decided.{UpTo, WasSent, Committed, IsBase}
 use Rattle.protocol.specs.World.Committed.{base_at}
 use Rattle.law_safety.specs.Locks.{AbandonLock}
-use Rattle.law_steps.specs.Fences.{AnsweredOn}
+use Rattle.law_steps.specs.AnsweredOn.{AnsweredOn}
 
 -- a world has one base at v
 abbrev pub BaseIsOne : Type 0

@@ -3,10 +3,10 @@ use Rattle.std.specs.Prelude.{◌&&◌}
 use Rattle.protocol.specs.Words.{Read, before}
 use Rattle.protocol.specs.Replica.Votes.{conflicts, misses, writes_key}
 use Rattle.law_serial.specs.Reads.{NothingBetween}
-use Rattle.law_steps.proofs.Dropped.{true_false}
-use Rattle.law_safety.proofs.Bases.{both, or_left_in}
-use Rattle.law_steps.proofs.Votes.{any_in}
-use Rattle.law_safety.proofs.Agreed.{no_conflict}
+use Rattle.law_steps.proofs.TakenLemmas.{true_false}
+use Rattle.law_safety.proofs.BaseEntries.{both, or_left_in}
+use Rattle.law_steps.proofs.VotesLemmas.{any_in}
+use Rattle.law_safety.proofs.InvariantHolds.{no_conflict}
 
 pub nothing_between : NothingBetween
 unfolding conflicts

@@ -7,14 +7,14 @@ use Rattle.protocol.specs.Warden.Base.{entries_of}
 use Rattle.protocol.specs.World.State.{Plan, World, first_world}
 use Rattle.protocol.specs.World.Events.{replay_from}
 use Rattle.protocol.specs.World.Decided.{WasSent}
-use Rattle.law_steps.proofs.Dropped.{before_self, true_false}
+use Rattle.law_steps.proofs.TakenLemmas.{before_self, true_false}
 use Rattle.law_steps.proofs.Reach.{Reach, events_reach}
 use Rattle.law_steps.proofs.Reach.From.{Begins}
 use Rattle.law_steps.proofs.ClientFacts.{CFact, client_facts_reach}
-use Rattle.law_steps.proofs.WardFacts.{WFact, ward_facts_reach}
-use Rattle.law_safety.proofs.Bases.{entry_wid}
-use Rattle.law_safety.proofs.Unique.{entry_one}
-use Rattle.law_safety.proofs.Based.{sent_committed}
+use Rattle.law_steps.proofs.WardenFacts.{WFact, ward_facts_reach}
+use Rattle.law_safety.proofs.BaseEntries.{entry_wid}
+use Rattle.law_safety.proofs.BaseIsOne.{entry_one}
+use Rattle.law_safety.proofs.BaseOfDrop.{sent_committed}
 use Rattle.law_serial.specs.Reads.{IsSure}
 use Rattle.law_serial.specs.Reads.IsSure.{First_value, Last_write}
 use Rattle.law_serial.specs.Programs.{ReadsCurrent}

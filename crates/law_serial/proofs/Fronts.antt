@@ -11,15 +11,15 @@ use Rattle.protocol.specs.World.Events.{replay_from}
 use Rattle.protocol.specs.World.Decided.{WasSent}
 use Rattle.protocol.proofs.ListsLemmas.{at_cases, at_same}
 use Rattle.law_steps.specs.Executions.{IsEarlier}
-use Rattle.law_steps.proofs.Acts.{IsRunning, Continues, WriteStep}
-use Rattle.law_steps.proofs.Phases.{running_under_way}
-use Rattle.law_steps.proofs.Reach.{Step, Reach, ClientActs, GotAt, events_reach}
+use Rattle.law_steps.proofs.ClientActs.{IsRunning, Continues, WriteStep}
+use Rattle.law_steps.proofs.PhaseLemmas.{running_under_way}
+use Rattle.law_steps.proofs.Reach.{Step, Reach, ByClientAct, GotAt, events_reach}
 use Rattle.law_steps.proofs.Reach.Step.{Stands, Client_acts, Replica_acts, Warden_acts}
 use Rattle.law_steps.proofs.Reach.From.{Begins, Next}
 use Rattle.law_steps.proofs.ClientFacts.{act_exec, earlier_trans, rec_reach, HasPrepared}
-use Rattle.law_safety.proofs.One.{prepare_from, not_at, running_between, running_prepared, earlier_itself}
-use Rattle.law_safety.proofs.Stays.{Origin, origin}
-use Rattle.law_safety.proofs.Stays.Origin.{Old, Of_replica, Of_client, Of_warden}
+use Rattle.law_safety.proofs.OneProposal.{prepare_from, not_at, running_between, running_prepared, earlier_itself}
+use Rattle.law_safety.proofs.LocksStay.{Origin, origin}
+use Rattle.law_safety.proofs.LocksStay.Origin.{Old, Of_replica, Of_client, Of_warden}
 use Rattle.law_serial.specs.Fronts.{IsFront, IsPutFirst, PutsAreFronts}
 
 front_itself : (ws vs : List Write) → ws ≡ vs → IsFront ws vs
@@ -74,7 +74,7 @@ module _ (p : Plan) (grow : (c n : ℕ) → WritesGrow (walk_at (slice_get (rule
   q' : Reach p w'
   q' = Next w w' q st
 
-  now : (cs : ClientActs p w w') (y : Exec) (ws : List Write) → IsIn (Puts y ws) cs.sent → IsNow p (w'.client y.ver.client) y.ver.client y ws
+  now : (cs : ByClientAct p w w') (y : Exec) (ws : List Write) → IsIn (Puts y ws) cs.sent → IsNow p (w'.client y.ver.client) y.ver.client y ws
   now cs y ws i = subst (λ (j : ℕ). IsNow p (w'.client j) j y ws) (sym mine) here
     where
       state : w'.client cs.c ≡ cs.state

@@ -30,11 +30,11 @@ use Rattle.protocol.proofs.EventSteps.{always}
 use Rattle.protocol.specs.World.Steps.Happens.{Stays, Client_moves, Replica_moves, Warden_moves}
 use Rattle.law_steps.proofs.Reach.{Reach, happens_reach}
 use Rattle.law_steps.proofs.Reach.From.{Begins}
-use Rattle.law_steps.proofs.Spoken.{spoken}
-use Rattle.law_steps.proofs.Provenance.{from_to_all, from_parcels}
-use Rattle.law_steps.proofs.Facts.{RFact, facts_reach}
+use Rattle.law_steps.proofs.SaysLemmas.{spoken}
+use Rattle.law_steps.proofs.Induction.{from_to_all, from_parcels}
+use Rattle.law_steps.proofs.ReplicaFacts.{RFact, facts_reach}
 use Rattle.law_steps.proofs.ClientFacts.{CFact, client_facts_reach}
-use Rattle.law_steps.proofs.WardFacts.{WFact, ward_facts_reach}
+use Rattle.law_steps.proofs.WardenFacts.{WFact, ward_facts_reach}
 use Rattle.law_serial.proofs.Read.{sure_notes}
 use Rattle.protocol.specs.declared.TallyOut.{TallyOut}
 use Rattle.protocol.specs.declared.TallyOut.TheVariants.{Wait, FastCommit, FastAbandon, Propose}

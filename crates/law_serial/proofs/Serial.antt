@@ -1,11 +1,11 @@
 -- The committed executions are the serial run of their programs.
-use Rattle.law_safety.proofs.Tried.{one_execution}
+use Rattle.law_safety.proofs.OneExecution.{one_execution}
 use Rattle.law_safety.proofs.Invariants.{commit_needs_votes}
-use Rattle.law_safety.proofs.Locks.{cast_found}
-use Rattle.law_safety.proofs.Bases.{entry_wid}
+use Rattle.law_safety.proofs.LocksLemmas.{cast_found}
+use Rattle.law_safety.proofs.BaseEntries.{entry_wid}
 use Rattle.law_safety.specs.Outcome.{IsRisingByExec}
-use Rattle.law_steps.proofs.Facts.{taking_reach}
-use Rattle.law_steps.proofs.Dropped.{cast_above_none}
+use Rattle.law_steps.proofs.ReplicaFacts.{taking_reach}
+use Rattle.law_steps.proofs.TakenLemmas.{cast_above_none}
 use Rattle.protocol.proofs.TestLemmas.{and_left}
 use Rattle.protocol.proofs.QuorumsLemmas.{quorums_meet}
 use Rattle.protocol.specs.Replica.Votes.{casts}
@@ -37,18 +37,18 @@ use Rattle.protocol_plans.specs.Scripted.{Start, Scripted, txn_of, plan_of, prog
 use Rattle.protocol_plans.proofs.Walking.{plans_have_programs}
 use Rattle.protocol.proofs.NamesLemmas.{version_is}
 use Rattle.protocol.proofs.ListsLemmas.{IsIn-left, IsIn-right, IsIn-cases}
-use Rattle.law_steps.proofs.Dropped.{true_false}
+use Rattle.law_steps.proofs.TakenLemmas.{true_false}
 use Rattle.law_steps.proofs.Reach.{Reach, events_reach}
 use Rattle.law_steps.proofs.Reach.From.{Begins}
 use Rattle.law_safety.specs.Outcome.{IsCommittedAs, IsCommittedList}
-use Rattle.law_safety.proofs.Cuts.{one_content}
-use Rattle.law_safety.proofs.Agreed.{safe_reach}
-use Rattle.law_safety.proofs.Tried.{one_attempt}
-use Rattle.law_safety.proofs.Listed.{committed_list}
+use Rattle.law_safety.proofs.TruncationSettles.{one_content}
+use Rattle.law_safety.proofs.InvariantHolds.{safe_reach}
+use Rattle.law_safety.proofs.OneExecution.{one_attempt}
+use Rattle.law_safety.proofs.CommittedList.{committed_list}
 use Rattle.law_serial.specs.Reads.{IsSure, IsLastWrite}
 use Rattle.law_serial.specs.Reads.IsSure.{First_value, Last_write}
 use Rattle.law_safety.specs.Replays.{HasReplay}
-use Rattle.law_safety.proofs.Replayed.{replayed}
+use Rattle.law_safety.proofs.ContentsReplayed.{replayed}
 use Rattle.law_serial.proofs.Current.{reads_current}
 use Rattle.law_serial.proofs.Between.{nothing_between}
 use Rattle.protocol_plans.specs.SerialOutcome.{first_map, nth_start, start_at, add_program, programs_of, entry_read, entry_written, IsRunOf, AreRuns, map_of}

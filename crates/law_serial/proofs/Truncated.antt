@@ -16,15 +16,15 @@ use Rattle.protocol_plans.specs.Scripted.{Scripted, plan_of}
 use Rattle.protocol.proofs.TestLemmas.{and_left}
 use Rattle.protocol.proofs.NamesLemmas.{key_is, version_is}
 use Rattle.protocol.proofs.ListsLemmas.{IsIn-left, IsIn-right}
-use Rattle.law_steps.proofs.Dropped.{true_false, IsIn-filter, IsIn-filtered}
-use Rattle.law_steps.proofs.Votes.{any_true}
+use Rattle.law_steps.proofs.TakenLemmas.{true_false, IsIn-filter, IsIn-filtered}
+use Rattle.law_steps.proofs.VotesLemmas.{any_true}
 use Rattle.law_steps.proofs.Reach.{events_reach}
 use Rattle.law_steps.proofs.Reach.From.{Begins}
 use Rattle.law_safety.specs.Outcome.{IsRisingByExec}
-use Rattle.law_safety.proofs.Bases.{entry_wid, write_entry, rising_one}
-use Rattle.law_safety.proofs.Cuts.{one_content}
-use Rattle.law_safety.proofs.Agreed.{safe_reach}
-use Rattle.law_safety.proofs.Listed.{base_at_is}
+use Rattle.law_safety.proofs.BaseEntries.{entry_wid, write_entry, rising_one}
+use Rattle.law_safety.proofs.TruncationSettles.{one_content}
+use Rattle.law_safety.proofs.InvariantHolds.{safe_reach}
+use Rattle.law_safety.proofs.CommittedList.{base_at_is}
 use Rattle.protocol_plans.specs.SerialOutcome.{first_map, programs_of, map_of, upto_version}
 use Rattle.law_serial.specs.Serial.{SerialBase}
 use Rattle.law_serial.proofs.Lookups.{latest_found, split_at, rising_after}

@@ -27,13 +27,13 @@ use Rattle.protocol.proofs.TestLemmas.{and_left, and_right, eqb_is, le_is, lt_is
 use Rattle.protocol.proofs.NamesLemmas.{exec_is}
 use Rattle.protocol.specs.Client.State.{values}
 use Rattle.std.proofs.lemmas.Bool.Decides.{Decides-int_eq}
-use Rattle.law_steps.proofs.Writing.{stops, stops_silent, begins, goes_on, values_append, relabels, puts_writes, puts_alone, other_question, prepares_writes}
-use Rattle.law_steps.proofs.Phases.{same_stage, running_stage, unprepared, quiet_puts, not_true, warden_is, quiet_question, quiet_append, between_is, aborted_is, running_under_way, prepared_under_way}
-use Rattle.law_steps.proofs.Acts.Act.{Quiet, Advances, Prepares, Counts, Proposes, Accepts, Decides, Gives_up, Learns}
-use Rattle.law_steps.proofs.Acts.Reason.{All_commit, One_final, By_quorum}
-use Rattle.law_steps.proofs.Acts.TryStep.{Keeps, Next_exec, Next_try}
-use Rattle.law_steps.proofs.Acts.Chain.{Start, Then}
-use Rattle.law_steps.proofs.Acts.{IsRunning, IsUnderWay, Reason, Act, IsAborted, TryStep, WriteStep, Chain, Tells, tally_tells}
+use Rattle.law_steps.proofs.WriteStepLemmas.{stops, stops_silent, begins, goes_on, values_append, relabels, puts_writes, puts_alone, other_question, prepares_writes}
+use Rattle.law_steps.proofs.PhaseLemmas.{same_stage, running_stage, unprepared, quiet_puts, not_true, warden_is, quiet_question, quiet_append, between_is, aborted_is, running_under_way, prepared_under_way}
+use Rattle.law_steps.proofs.ClientActs.Act.{Quiet, Advances, Prepares, Counts, Proposes, Accepts, Decides, Gives_up, Learns}
+use Rattle.law_steps.proofs.ClientActs.Reason.{All_commit, One_final, By_quorum}
+use Rattle.law_steps.proofs.ClientActs.TryStep.{Keeps, Next_exec, Next_try}
+use Rattle.law_steps.proofs.ClientActs.Chain.{Start, Then}
+use Rattle.law_steps.proofs.ClientActs.{IsRunning, IsUnderWay, Reason, Act, IsAborted, TryStep, WriteStep, Chain, Tells, tally_tells}
 
 module _ (r : Rules) (Got : NodeId → Body → Type 0) where
   abbrev Reaches : ClientState → Turn → Type 0

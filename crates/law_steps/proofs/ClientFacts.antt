@@ -6,11 +6,11 @@ use Rattle.protocol.specs.Client.Deciding.{content_for}
 use Rattle.protocol.specs.Client.State.Phase.{Between, Running, Prepared}
 use Rattle.protocol.specs.World.State.{Plan, World, rules}
 use Rattle.law_steps.specs.Executions.{Over, IsEarlier}
-use Rattle.law_steps.proofs.Phases.{running_under_way, prepared_under_way}
-use Rattle.law_steps.proofs.Acts.{Act, IsQuiet, AllQuiet, IsRunning, IsUnprepared, IsUnderWay, SameStage, WasBegun}
-use Rattle.law_steps.proofs.Acts.Act.{Quiet, Advances, Prepares, Counts, Proposes, Accepts, Decides, Gives_up, Learns}
+use Rattle.law_steps.proofs.PhaseLemmas.{running_under_way, prepared_under_way}
+use Rattle.law_steps.proofs.ClientActs.{Act, IsQuiet, AllQuiet, IsRunning, IsUnprepared, IsUnderWay, SameStage, WasBegun}
+use Rattle.law_steps.proofs.ClientActs.Act.{Quiet, Advances, Prepares, Counts, Proposes, Accepts, Decides, Gives_up, Learns}
 use Rattle.law_steps.proofs.Reach.{Reach, GotAt}
-use Rattle.law_steps.proofs.Provenance.{ClientsSaid, clients_said_reach, clients_reach}
+use Rattle.law_steps.proofs.Induction.{ClientsSaid, clients_said_reach, clients_reach}
 
 abbrev pub HasPrepared : Content → Phase → Type 0
 HasPrepared k (Prepared l v o a) = k ≡ l

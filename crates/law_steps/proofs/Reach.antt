@@ -11,15 +11,15 @@ use Rattle.protocol.specs.Client.Step.Input.{Goes, Runs, Hurries, Comes}
 use Rattle.protocol.specs.World.State.{Plan, World, in_range, rules, warden_rules, first_world}
 use Rattle.protocol.specs.World.Events.{at, to_all, parcel, after, replay_from}
 use Rattle.protocol.proofs.ListsLemmas.{IsIn-left, at_same, at_cases}
-use Rattle.law_steps.proofs.Acts.{Act, TryStep, WriteStep, Chain}
+use Rattle.law_steps.proofs.ClientActs.{Act, TryStep, WriteStep, Chain}
 use Rattle.law_steps.proofs.ClientChain.{client_chain, CameTo}
-use Rattle.law_steps.proofs.Acts.Act.{Quiet, Advances, Prepares, Counts, Proposes, Accepts, Decides, Gives_up, Learns}
-use Rattle.law_steps.proofs.Acts.Chain.{Start, Then}
+use Rattle.law_steps.proofs.ClientActs.Act.{Quiet, Advances, Prepares, Counts, Proposes, Accepts, Decides, Gives_up, Learns}
+use Rattle.law_steps.proofs.ClientActs.Chain.{Start, Then}
 use Rattle.protocol.specs.World.Steps.{Happens, Stayed, ByReplica, Came, Heard}
 use Rattle.protocol.proofs.EventSteps.{after_happens}
-use Rattle.law_steps.proofs.Wards.{WAct, WChain, warden_acts, HeardBy}
-use Rattle.law_steps.proofs.Wards.WAct.{Stills, Asks, Tolds, Accepts as Ward_accepts, Begins_cut, Counts_fenced, Ends_cut}
-use Rattle.law_steps.proofs.Wards.WChain.{Start as Wards_start, Then as Wards_then}
+use Rattle.law_steps.proofs.WardenActs.{WAct, WChain, warden_acts, HeardBy}
+use Rattle.law_steps.proofs.WardenActs.WAct.{Stills, Asks, Tolds, Accepts as Ward_accepts, Begins_cut, Counts_fenced, Ends_cut}
+use Rattle.law_steps.proofs.WardenActs.WChain.{Start as Wards_start, Then as Wards_then}
 use Rattle.protocol.specs.Warden.State.{WardenRules, WardenState, Parcel}
 use Rattle.protocol.specs.Warden.Step.{WardenInput}
 use Rattle.protocol.specs.Warden.Step.WardenInput.{Recovers, Truncates, Hears}
@@ -29,7 +29,7 @@ use Rattle.protocol.specs.World.Steps.Happens.{Stays, Client_moves, Replica_move
 abbrev pub GotAt : World → ℕ → NodeId → Body → Type 0
 GotAt w c from b = (m : Envelope) × IsIn m w.mail × (m.to ≡ Client c) × (m.from ≡ from) × (m.body ≡ b)
 
-pub record ClientActs (p : Plan) (w w' : World) : Type 0 where
+pub record ByClientAct (p : Plan) (w w' : World) : Type 0 where
   pub c : ℕ
   pub real : in_range c (length p.clients) ≡ true
   pub state : ClientState
@@ -45,7 +45,7 @@ pub record ClientActs (p : Plan) (w w' : World) : Type 0 where
 abbrev pub HeardAt : World → ℕ → NodeId → Body → Type 0
 HeardAt w k from b = (m : Envelope) × IsIn m w.mail × (m.to ≡ Warden k) × (m.from ≡ from) × (m.body ≡ b)
 
-pub record WardenActs (p : Plan) (w w' : World) : Type 0 where
+pub record ByWardenAct (p : Plan) (w w' : World) : Type 0 where
   pub k : ℕ
   pub real : in_range k p.wardens ≡ true
   pub state : WardenState
@@ -59,9 +59,9 @@ pub record WardenActs (p : Plan) (w w' : World) : Type 0 where
 -- the small steps of a world
 pub data Step (p : Plan) (w w' : World) : Type 0 where
   Stands : Stayed w w' → Step p w w'
-  Client_acts : ClientActs p w w' → Step p w w'
+  Client_acts : ByClientAct p w w' → Step p w w'
   Replica_acts : ByReplica p w w' → Step p w w'
-  Warden_acts : WardenActs p w w' → Step p w w'
+  Warden_acts : ByWardenAct p w w' → Step p w w'
 
 -- the worlds that small steps lead to
 pub data From (p : Plan) (o : World) : World → Type 0 where

@@ -1,2 +1,2 @@
 pub mod Executions
-pub mod Fences
+pub mod AnsweredOn

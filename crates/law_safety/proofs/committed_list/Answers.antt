@@ -1,4 +1,4 @@
-use Rattle.law_safety.proofs.Listed as proved
+use Rattle.law_safety.proofs.CommittedList as proved
 use Rattle.law_safety.proofs.committed_list.Goals as goal
 
 pub returns : goal.returns

@@ -1,4 +1,4 @@
-use Rattle.law_safety.proofs.Replayed as proved
+use Rattle.law_safety.proofs.ContentsReplayed as proved
 use Rattle.law_safety.proofs.contents_replayed.Goals as goal
 
 pub returns : goal.returns

@@ -1,4 +1,4 @@
-use Rattle.law_safety.proofs.Settled as proved
+use Rattle.law_safety.proofs.DecisionsStay as proved
 use Rattle.law_safety.proofs.decisions_stay.Goals as goal
 
 pub returns : goal.returns

@@ -1,4 +1,4 @@
-use Rattle.law_safety.proofs.Tried as proved
+use Rattle.law_safety.proofs.OneExecution as proved
 use Rattle.law_safety.proofs.one_execution.Goals as goal
 
 pub returns : goal.returns

@@ -1,12 +1,12 @@
 use Rattle.protocol.proofs.QuorumsLemmas.{named_quorum}
-use Rattle.law_steps.proofs.Known.{choice_cases}
+use Rattle.law_steps.proofs.KnownLemmas.{choice_cases}
 use Rattle.std.proofs.Common.{◌≡◌, ℕ, ◌<◌, ◌≤◌, ◌⊎◌, ◌≢◌, inl, inr, refl, ap, sym, ◌∙◌, subst, true, false, Bool, cond, List, [], ◌∷◌, Option, Some, None, length, arith}
 use Rattle.std.specs.Prelude.{map, ◌&&◌, nat_lt}
 use Rattle.std.specs.List.{list_all}
 use Rattle.std.proofs.lemmas.Bool.Decides.{nat_tests}
 use Rattle.protocol.specs.Words.{Version, Exec, BaseEntry, Drops, Finalize, Decide, Accept, Content, Vote, Commit, Tentative, Final, Choice, Abandon, ToCommit}
 use Rattle.protocol.specs.World.Decided.{UpTo, WasSent}
-use Rattle.law_safety.proofs.Bases.{Bases}
+use Rattle.law_safety.proofs.BaseEntries.{Bases}
 use Rattle.std.specs.Option.{option_or}
 use Rattle.protocol.specs.Lists.{IsIn}
 use Rattle.protocol.specs.Replica.Votes.{vote, is_commit_vote}
@@ -17,15 +17,15 @@ use Rattle.protocol.specs.Warden.Recovery.{fixed, fixed_choice, with_content, to
 use Rattle.protocol.specs.World.State.{Plan, World}
 use Rattle.protocol.proofs.TestLemmas.{and_left, and_right, lt_is}
 use Rattle.protocol.proofs.QuorumsLemmas.{quorums_meet}
-use Rattle.law_steps.proofs.Known.{Finds}
+use Rattle.law_steps.proofs.KnownLemmas.{Finds}
 use Rattle.law_steps.proofs.Reach.{Reach}
-use Rattle.law_safety.proofs.WardEvidence.{PartFact, decided_sent}
+use Rattle.law_safety.proofs.WardenEvidence.{PartFact, decided_sent}
 use Rattle.law_safety.specs.Locks.{VotedCommit, HasAccepted, Shut, AbandonLock, CommitLock}
-use Rattle.law_safety.proofs.Locks.{Closed, Proposals, accepted_sent, shut_no, carried, quorum_map}
+use Rattle.law_safety.proofs.LocksLemmas.{Closed, Proposals, accepted_sent, shut_no, carried, quorum_map}
 use Rattle.law_safety.specs.Locks.Shut.{Has_promised}
 use Rattle.law_safety.specs.Locks.AbandonLock.{Accepted_abandon, All_shut}
 use Rattle.law_safety.specs.Locks.CommitLock.{Accepted_commit, Fast}
-use Rattle.law_safety.proofs.One.{one_view}
+use Rattle.law_safety.proofs.OneProposal.{one_view}
 
 -- the invariants of proposals and decisions
 pub record Safe (n : ℕ) (w : World) : Type 0 where

@@ -12,13 +12,13 @@ use Rattle.protocol.specs.World.State.{Plan, World}
 use Rattle.protocol.proofs.ListsLemmas.{IsIn-cases}
 use Rattle.protocol.proofs.QuorumsLemmas.{distinct_few, decide_in}
 use Rattle.law_steps.proofs.Reach.{Reach}
-use Rattle.law_steps.proofs.Facts.{AcceptedFact}
-use Rattle.law_safety.proofs.One.{one_view}
+use Rattle.law_steps.proofs.ReplicaFacts.{AcceptedFact}
+use Rattle.law_safety.proofs.OneProposal.{one_view}
 use Rattle.protocol.specs.World.Decided.{WasSent}
-use Rattle.law_safety.proofs.Locks.{accepted_sent}
+use Rattle.law_safety.proofs.LocksLemmas.{accepted_sent}
 use Rattle.law_safety.specs.Locks.{VotedCommit, HasAccepted}
 use Rattle.protocol.proofs.DistinctLemmas.{distinct_more}
-use Rattle.law_safety.proofs.Evidence.{Evidence}
+use Rattle.law_safety.proofs.ClientEvidence.{Evidence}
 
 -- the counted votes that pass are those of distinct replicas
 passed : (Vote → Bool) → List CountedVote → List ℕ

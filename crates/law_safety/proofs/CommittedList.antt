@@ -15,17 +15,17 @@ use Rattle.law_safety.specs.Bases.{BaseOfDrop}
 use Rattle.law_safety.specs.Outcome.{IsRisingByExec, IsCommittedAs, IsCommittedList, CommittedList, BaseAt}
 use Rattle.protocol.proofs.NamesLemmas.{exec_is, same_version_tells}
 use Rattle.protocol.proofs.ListsLemmas.{map_in, flat_map_in, IsIn-map, IsIn-flat_map}
-use Rattle.law_steps.proofs.Dropped.{true_false}
-use Rattle.law_steps.proofs.Votes.{any_true, any_in}
+use Rattle.law_steps.proofs.TakenLemmas.{true_false}
+use Rattle.law_steps.proofs.VotesLemmas.{any_true, any_in}
 use Rattle.law_steps.proofs.Reach.{Reach, events_reach}
 use Rattle.law_steps.proofs.Reach.From.{Begins}
-use Rattle.law_safety.proofs.Cuts.{one_content}
-use Rattle.law_safety.proofs.Entries.{puts_hold, puts_of}
-use Rattle.law_safety.proofs.Agreed.{safe_reach}
-use Rattle.law_safety.proofs.Based.{committed_sent, puts_rising, drop_kept}
-use Rattle.law_safety.proofs.Tried.{committed_prepared, tried, one_attempt}
-use Rattle.law_safety.proofs.Rising.{IsStrict, same_members}
-use Rattle.law_safety.proofs.Unique.{base_one}
+use Rattle.law_safety.proofs.TruncationSettles.{one_content}
+use Rattle.law_safety.proofs.BaseLemmas.{puts_hold, puts_of}
+use Rattle.law_safety.proofs.InvariantHolds.{safe_reach}
+use Rattle.law_safety.proofs.BaseOfDrop.{committed_sent, puts_rising, drop_kept}
+use Rattle.law_safety.proofs.OneExecution.{committed_prepared, tried, one_attempt}
+use Rattle.law_safety.proofs.RisingLemmas.{IsStrict, same_members}
+use Rattle.law_safety.proofs.BaseIsOne.{base_one}
 use Rattle.law_safety.proofs.Absent.{decider}
 
 -- the order of executions

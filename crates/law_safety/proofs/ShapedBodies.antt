@@ -17,19 +17,19 @@ use Rattle.protocol.specs.Warden.Base.{base_of}
 use Rattle.protocol.specs.World.State.{Plan, World, rules, warden_rules}
 use Rattle.protocol.proofs.ListsLemmas.{IsIn-cases, IsIn-one_when, at_same}
 use Rattle.protocol.specs.World.Decided.{WasSent}
-use Rattle.law_steps.proofs.Mail.{took_reach}
-use Rattle.law_steps.proofs.Acts.{Act}
-use Rattle.law_steps.proofs.Acts.Act.{Quiet, Advances, Prepares, Counts, Proposes, Accepts, Decides, Gives_up, Learns}
-use Rattle.law_steps.proofs.Wards.{WAct}
-use Rattle.law_steps.proofs.Wards.WAct.{Stills, Asks, Tolds, Accepts as Ward_accepts, Begins_cut, Counts_fenced, Ends_cut}
+use Rattle.law_steps.proofs.MailLemmas.{took_reach}
+use Rattle.law_steps.proofs.ClientActs.{Act}
+use Rattle.law_steps.proofs.ClientActs.Act.{Quiet, Advances, Prepares, Counts, Proposes, Accepts, Decides, Gives_up, Learns}
+use Rattle.law_steps.proofs.WardenActs.{WAct}
+use Rattle.law_steps.proofs.WardenActs.WAct.{Stills, Asks, Tolds, Accepts as Ward_accepts, Begins_cut, Counts_fenced, Ends_cut}
 use Rattle.law_steps.proofs.Reach.{Reach, GotAt, HeardAt}
 use Rattle.law_steps.proofs.Reach.From.{Begins, Next}
-use Rattle.law_steps.proofs.Provenance.{parcel_body}
-use Rattle.law_safety.proofs.Stays.{Origin, origin}
-use Rattle.law_safety.proofs.Stays.Origin.{Old, Of_replica, Of_client, Of_warden}
-use Rattle.law_safety.proofs.WardEvidence.{ward_reach}
+use Rattle.law_steps.proofs.Induction.{parcel_body}
+use Rattle.law_safety.proofs.LocksStay.{Origin, origin}
+use Rattle.law_safety.proofs.LocksStay.Origin.{Old, Of_replica, Of_client, Of_warden}
+use Rattle.law_safety.proofs.WardenEvidence.{ward_reach}
 use Rattle.law_safety.proofs.ClientSent.{quiet_not, in_single, in_none}
-use Rattle.law_safety.proofs.WardSent.{ward_decided, in_parcels, no_parcels, to_client_body}
+use Rattle.law_safety.proofs.WardenSent.{ward_decided, in_parcels, no_parcels, to_client_body}
 
 pub commit_decided : (h : Handled) (l : Kept) → IsIn l (commits h) → (m : Envelope) × IsIn m h × (m.body ≡ Decide l.exec ToCommit (Some l.content))
 commit_decided [] l i = absurd i

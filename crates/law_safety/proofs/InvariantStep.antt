@@ -13,34 +13,34 @@ use Rattle.protocol.specs.Warden.State.{ToldAnswer, Proposal, WardenState}
 use Rattle.protocol.specs.Warden.Recovery.{fixed}
 use Rattle.protocol.specs.World.State.{Plan, World, rules, warden_rules}
 use Rattle.protocol.proofs.ListsLemmas.{IsIn-cases, at_same}
-use Rattle.law_steps.proofs.Phases.{running_under_way, prepared_under_way}
-use Rattle.law_steps.proofs.Acts.{IsRunning, IsUnderWay}
-use Rattle.law_steps.proofs.Acts.Reason.{All_commit, One_final, By_quorum}
-use Rattle.law_steps.proofs.Reach.{Step, Reach, ClientActs, WardenActs, GotAt, HeardAt}
+use Rattle.law_steps.proofs.PhaseLemmas.{running_under_way, prepared_under_way}
+use Rattle.law_steps.proofs.ClientActs.{IsRunning, IsUnderWay}
+use Rattle.law_steps.proofs.ClientActs.Reason.{All_commit, One_final, By_quorum}
+use Rattle.law_steps.proofs.Reach.{Step, Reach, ByClientAct, ByWardenAct, GotAt, HeardAt}
 use Rattle.law_steps.proofs.Reach.Step.{Warden_acts}
 use Rattle.law_steps.proofs.Reach.From.{Next}
-use Rattle.law_steps.proofs.Facts.{AcceptedFact, ToldFact}
-use Rattle.law_steps.proofs.Provenance.{from_to_all}
+use Rattle.law_steps.proofs.ReplicaFacts.{AcceptedFact, ToldFact}
+use Rattle.law_steps.proofs.Induction.{from_to_all}
 use Rattle.law_steps.specs.Executions.{Over}
 use Rattle.law_steps.proofs.ClientFacts.{At, HasPrepared, HasProposed, rec_reach, said_new}
-use Rattle.law_steps.proofs.WardFacts.{WFact, round_found}
-use Rattle.law_safety.proofs.One.{prepare_from, final_from, FinalFrom, not_at, IsOpen, running_between, open_between, running_prepared, open_proposed, warden_view}
-use Rattle.law_safety.proofs.One.FinalFrom.{By_client, By_warden}
+use Rattle.law_steps.proofs.WardenFacts.{WFact, round_found}
+use Rattle.law_safety.proofs.OneProposal.{prepare_from, final_from, FinalFrom, not_at, IsOpen, running_between, open_between, running_prepared, open_proposed, warden_view}
+use Rattle.law_safety.proofs.OneProposal.FinalFrom.{By_client, By_warden}
 use Rattle.protocol.specs.World.Decided.{WasSent}
-use Rattle.law_safety.proofs.Locks.{sent_grows, Closed, Proposals, quorum_map, voted_grows}
+use Rattle.law_safety.proofs.LocksLemmas.{sent_grows, Closed, Proposals, quorum_map, voted_grows}
 use Rattle.law_safety.specs.Locks.{VotedCommit, HasAccepted, ClientDecided, Shut, AbandonLock, CommitLock}
 use Rattle.law_safety.specs.Locks.Shut.{Unsent}
 use Rattle.law_safety.specs.Locks.AbandonLock.{Accepted_abandon, All_shut}
 use Rattle.law_safety.specs.Locks.CommitLock.{Accepted_commit, Fast}
-use Rattle.law_safety.proofs.Stays.{CommitGround, Origin, origin, shut_stays, closed_stays, abandon_lock_stays, commit_lock_stays}
-use Rattle.law_safety.proofs.Stays.Origin.{Old, Of_replica, Of_client, Of_warden}
-use Rattle.law_safety.proofs.Evidence.{evident_reach}
-use Rattle.law_safety.proofs.WardEvidence.{PartFact, ward_reach}
-use Rattle.law_safety.proofs.Chosen.{Safe, fixed_chosen, chosen_below, chosen_abandon, chosen_commit}
+use Rattle.law_safety.proofs.LocksStay.{CommitGround, Origin, origin, shut_stays, closed_stays, abandon_lock_stays, commit_lock_stays}
+use Rattle.law_safety.proofs.LocksStay.Origin.{Old, Of_replica, Of_client, Of_warden}
+use Rattle.law_safety.proofs.ClientEvidence.{evident_reach}
+use Rattle.law_safety.proofs.WardenEvidence.{PartFact, ward_reach}
+use Rattle.law_safety.proofs.ChoiceOfTolds.{Safe, fixed_chosen, chosen_below, chosen_abandon, chosen_commit}
 use Rattle.law_safety.proofs.ClientSent.DecisionOf.{Weighed, Gave_up}
 use Rattle.law_safety.proofs.ClientSent.{ProposalOf, in_single, proposal_of, DecisionOf, Weighed, Gave_up, decision_of}
-use Rattle.law_safety.proofs.Counted.{commit_quorum, all_voted, a_final, accept_quorum, everyone}
-use Rattle.law_safety.proofs.WardSent.{DecidedRound, ward_decided}
+use Rattle.law_safety.proofs.CountedQuorums.{commit_quorum, all_voted, a_final, accept_quorum, everyone}
+use Rattle.law_safety.proofs.WardenSent.{DecidedRound, ward_decided}
 
 -- the tolds behind a warden's Finalize, as they are before the step in which it is sent
 pub record Behind (p : Plan) (w : World) (x : Exec) (v : ℕ) (d : Choice) : Type 0 where
@@ -51,7 +51,7 @@ pub record Behind (p : Plan) (w : World) (x : Exec) (v : ℕ) (d : Choice) : Typ
   pub choice : (fixed tolds).choice ≡ d
 
 module _ (p : Plan) (pos : 0 < p.replicas) (w w' : World) (q : Reach p w) (commit_ground : CommitGround w) where
-  behind : (ws : WardenActs p w w') → (x : Exec) (v : ℕ) (d : Choice) (o : Option Content) → WFact p.wardens ws.k (w'.warden ws.k) (Finalize x v d o) → Behind p w x v d
+  behind : (ws : ByWardenAct p w w') → (x : Exec) (v : ℕ) (d : Choice) (o : Option Content) → WFact p.wardens ws.k (w'.warden ws.k) (Finalize x v d o) → Behind p w x v d
   behind ws x v d o f =
       let g = round_found x v (w'.warden ws.k).rounds f.1.0 f.1.1 in
       let e = (ward_reach p pos w' (Next w w' q (Warden_acts ws)) ws.k).round f.1.0 g.0 in
@@ -72,7 +72,7 @@ module _ (p : Plan) (pos : 0 < p.replicas) (w w' : World) (q : Reach p w) (commi
     below = λ x v d o t u l. below_go x v d o u l (origin p w w' q st _ t);
   }
     where
-      mine : (cs : ClientActs p w w') (x : Exec) (v : ℕ) (d : Choice) (o : Option Content) → IsIn (Finalize x v d o) cs.sent → ProposalOf p.replicas (w.client cs.c) x v d
+      mine : (cs : ByClientAct p w w') (x : Exec) (v : ℕ) (d : Choice) (o : Option Content) → IsIn (Finalize x v d o) cs.sent → ProposalOf p.replicas (w.client cs.c) x v d
       mine cs x v d o i = proposal_of (rules p cs.c) (GotAt w cs.c) (w.client cs.c) cs.state cs.sent cs.act x v d o i
 
       commit_go : (x : Exec) (v : ℕ) (o : Option Content) → Origin p w w' (Finalize x v ToCommit o) → Quorum p.replicas (VotedCommit w' x)
@@ -106,20 +106,20 @@ module _ (p : Plan) (pos : 0 < p.replicas) (w w' : World) (q : Reach p w) (commi
   next : Reach p w'
   next = Next w w' q st
 
-  sent_before : (cs : ClientActs p w w') (b c : Body) → cs.sent ≡ c ∷ [] → (b ≡ c → ⊥) → WasSent w' b → WasSent w b
+  sent_before : (cs : ByClientAct p w w') (b c : Body) → cs.sent ≡ c ∷ [] → (b ≡ c → ⊥) → WasSent w' b → WasSent w b
   sent_before cs b c e n t = elim (IsIn-cases t.envelope w.mail _ (subst (λ (l : List Envelope). IsIn t.envelope l) cs.mail t.there)) [
     | inl i ↦ record { envelope = t.envelope; there = i; body = t.body }
     | inr i ↦ absurd (n (sym t.body ∙ in_single cs.sent c t.envelope.body e (from_to_all p.replicas (Client cs.c) cs.sent t.envelope i).1))
   ]
 
-  own : (cs : ClientActs p w w') (x : Exec) → x ≡ (w.client cs.c).exec → IsUnderWay (w.client cs.c).phase → x.ver.client ≡ cs.c
+  own : (cs : ByClientAct p w w') (x : Exec) → x ≡ (w.client cs.c).exec → IsUnderWay (w.client cs.c).phase → x.ver.client ≡ cs.c
   own cs x e u = ap (λ (z : Exec). z.ver.client) e ∙ (rec_reach p w q cs.c).own u
 
-  over_now : (cs : ClientActs p w w') (x : Exec) → x ≡ (w.client cs.c).exec → IsUnderWay (w.client cs.c).phase → cs.state.exec ≡ (w.client cs.c).exec → cs.state.phase ≡ Between → Over x (w'.client x.ver.client)
+  over_now : (cs : ByClientAct p w w') (x : Exec) → x ≡ (w.client cs.c).exec → IsUnderWay (w.client cs.c).phase → cs.state.exec ≡ (w.client cs.c).exec → cs.state.phase ≡ Between → Over x (w'.client x.ver.client)
   over_now cs x e u f g = subst (λ (c : ℕ). Over x (w'.client c)) (sym (own cs x e u)) (subst (λ (h : ℕ → ClientState). Over x (h cs.c)) (sym cs.client) (subst (λ (z : ClientState). Over x z) (sym (at_same cs.c cs.state w.client)) (inr (e ∙ sym f, g))))
 
   -- the client decides it now
-  decides_now : (cs : ClientActs p w w') (x : Exec) (d : Choice) (o : Option Content) → x ≡ (w.client cs.c).exec → IsUnderWay (w.client cs.c).phase → cs.sent ≡ Decide x d o ∷ [] → ClientDecided w' x d
+  decides_now : (cs : ByClientAct p w w') (x : Exec) (d : Choice) (o : Option Content) → x ≡ (w.client cs.c).exec → IsUnderWay (w.client cs.c).phase → cs.sent ≡ Decide x d o ∷ [] → ClientDecided w' x d
   decides_now cs x d o e u q' =
       let here : IsIn (record { exec = x; choice = d }) cs.state.decisions = said_new (rules p cs.c) (GotAt w cs.c) (w.client cs.c) cs.state cs.sent (rec_reach p w q cs.c) cs.act (Decide x d o) (subst (λ (l : List Body). IsIn (Decide x d o) l) (sym q') (inl refl)) in
       subst (λ (c : ℕ). IsIn (record { exec = x; choice = d }) (w'.client c).decisions) (sym (own cs x e u))
@@ -127,7 +127,7 @@ module _ (p : Plan) (pos : 0 < p.replicas) (w w' : World) (q : Reach p w) (commi
       (subst (λ (z : ClientState). IsIn (record { exec = x; choice = d }) z.decisions) (sym (at_same cs.c cs.state w.client)) here))
 
   -- the client gave up: nothing of x was prepared, and nothing will be
-  gave_up : (cs : ClientActs p w w') (x : Exec) (k' : Option Content) → IsRunning (w.client cs.c).phase → x ≡ (w.client cs.c).exec → cs.state.exec ≡ (w.client cs.c).exec → cs.state.phase ≡ Between → cs.sent ≡ Decide x Abandon k' ∷ [] → AbandonLock p.replicas w' x
+  gave_up : (cs : ByClientAct p w w') (x : Exec) (k' : Option Content) → IsRunning (w.client cs.c).phase → x ≡ (w.client cs.c).exec → cs.state.exec ≡ (w.client cs.c).exec → cs.state.phase ≡ Between → cs.sent ≡ Decide x Abandon k' ∷ [] → AbandonLock p.replicas w' x
   gave_up cs x k' run e f g sent = All_shut (everyone p.replicas _ pos (λ r a b. Unsent (λ k t. unsent k (sent_before cs (Prepare x k) _ sent (λ z. cc) t)) (over_now cs x e (running_under_way _ run) f g)))
     where
       unsent : (k : Content) → WasSent w (Prepare x k) → ⊥
@@ -138,7 +138,7 @@ module _ (p : Plan) (pos : 0 < p.replicas) (w w' : World) (q : Reach p w) (commi
   open_prepared z k vs acs e = subst IsOpen (sym e) tt
 
   -- all voted Commit, and the client proposed nothing
-  fast : (cs : ClientActs p w w') (x : Exec) (k' : Option Content) (k : Content) (vs : List CountedVote) (acs : List ℕ) → (w.client cs.c).phase ≡ Prepared k vs None acs → p.replicas ≤ count_votes is_commit_vote vs → x ≡ (w.client cs.c).exec → cs.state.exec ≡ (w.client cs.c).exec → cs.state.phase ≡ Between → cs.sent ≡ Decide x ToCommit k' ∷ [] → CommitLock p.replicas w' x × Quorum p.replicas (VotedCommit w' x)
+  fast : (cs : ByClientAct p w w') (x : Exec) (k' : Option Content) (k : Content) (vs : List CountedVote) (acs : List ℕ) → (w.client cs.c).phase ≡ Prepared k vs None acs → p.replicas ≤ count_votes is_commit_vote vs → x ≡ (w.client cs.c).exec → cs.state.exec ≡ (w.client cs.c).exec → cs.state.phase ≡ Between → cs.sent ≡ Decide x ToCommit k' ∷ [] → CommitLock p.replicas w' x × Quorum p.replicas (VotedCommit w' x)
   fast cs x k' k vs acs ph l e f g sent = (Fast voted (decides_now cs x ToCommit k' e (prepared_under_way _ k vs None acs ph) sent) (λ d o t. unproposed d o (sent_before cs (Finalize x 0 d o) _ sent (λ z. cc) t)), everyone p.replicas _ pos voted)
     where
       voted : (r : ℕ) → 0 < r → r ≤ p.replicas → VotedCommit w' x r
@@ -152,14 +152,14 @@ module _ (p : Plan) (pos : 0 < p.replicas) (w w' : World) (q : Reach p w) (commi
           go (By_warden j z range a h i) = let v = warden_view p w q j x 0 a h in let y : 0 ≡ j + v.0 * p.wardens = v.1 in let l = range.0 in omega (arith, y, l)
 
   -- a quorum accepted the client's proposal
-  weighed : (cs : ClientActs p w w') (x : Exec) (d : Choice) (k : Content) (vs : List CountedVote) (o : Option Choice) (acs : List ℕ) → (w.client cs.c).phase ≡ Prepared k vs o acs → o ≡ Some d → quorum p.replicas ≤ length acs → x ≡ (w.client cs.c).exec → Quorum p.replicas (HasAccepted w x 0 d) × WasSent w (Finalize x 0 d (content_for k d))
+  weighed : (cs : ByClientAct p w w') (x : Exec) (d : Choice) (k : Content) (vs : List CountedVote) (o : Option Choice) (acs : List ℕ) → (w.client cs.c).phase ≡ Prepared k vs o acs → o ≡ Some d → quorum p.replicas ≤ length acs → x ≡ (w.client cs.c).exec → Quorum p.replicas (HasAccepted w x 0 d) × WasSent w (Finalize x 0 d (content_for k d))
   weighed cs x d k vs o acs ph od l e =
       let ev = (evident_reach p pos w q cs.c).phase k vs o acs ph in
       let sent : WasSent w (Finalize x 0 d (content_for k d)) = subst (λ (z : Exec). WasSent w (Finalize z 0 d (content_for k d))) (sym e) (ev.proposed d od) in
       (accept_quorum p w q x 0 d (content_for k d) acs ev.accepters (λ j i. subst (λ (z : Exec). ((0 < j) × (j ≤ p.replicas)) × AcceptedFact (w.replica j) z 0) (sym e) (ev.accept j i)) l sent, sent)
 
   -- a quorum accepted the warden's proposal
-  round_decided : (ws : WardenActs p w w') (x : Exec) (d : Choice) (o : Option Content) → DecidedRound p.replicas ws.state x d o → (v : ℕ) × (o : Option Content) × Quorum p.replicas (HasAccepted w' x v d) × WasSent w' (Finalize x v d o)
+  round_decided : (ws : ByWardenAct p w w') (x : Exec) (d : Choice) (o : Option Content) → DecidedRound p.replicas ws.state x d o → (v : ℕ) × (o : Option Content) × Quorum p.replicas (HasAccepted w' x v d) × WasSent w' (Finalize x v d o)
   round_decided ws x d o r =
       let here : IsIn r.0 (w'.warden ws.k).rounds = subst (λ (h : ℕ → WardenState). IsIn r.0 (h ws.k).rounds) (sym ws.warden) (subst (λ (z : WardenState). IsIn r.0 z.rounds) (sym (at_same ws.k ws.state w.warden)) r.1) in
       let ev = (ward_reach p pos w' next ws.k).round r.0 here in
@@ -169,7 +169,7 @@ module _ (p : Plan) (pos : 0 < p.replicas) (w w' : World) (q : Reach p w) (commi
   pub abandoned_step : (x : Exec) (o : Option Content) → WasSent w' (Decide x Abandon o) → AbandonLock p.replicas w' x
   abandoned_step x o t = go (origin p w w' q st _ t)
     where
-      client : (cs : ClientActs p w w') → DecisionOf p.replicas (w.client cs.c) cs.state cs.sent x Abandon → AbandonLock p.replicas w' x
+      client : (cs : ByClientAct p w w') → DecisionOf p.replicas (w.client cs.c) cs.state cs.sent x Abandon → AbandonLock p.replicas w' x
       client cs (Weighed k vs u acs ph (All_commit a b c) e f g k' z) = cc
       client cs (Weighed k vs u acs ph (One_final a b c) e f g k' z) =
           let v = a_final p.replicas w _ k vs u acs ((evident_reach p pos w q cs.c).phase k vs u acs ph) c in
@@ -189,7 +189,7 @@ module _ (p : Plan) (pos : 0 < p.replicas) (w w' : World) (q : Reach p w) (commi
       more : Quorum p.replicas (VotedCommit w x) → Quorum p.replicas (VotedCommit w' x)
       more a = quorum_map p.replicas _ _ (λ r h. voted_grows p w w' st x Commit r h) a
 
-      client : (cs : ClientActs p w w') → DecisionOf p.replicas (w.client cs.c) cs.state cs.sent x ToCommit → CommitLock p.replicas w' x × Quorum p.replicas (VotedCommit w' x)
+      client : (cs : ByClientAct p w w') → DecisionOf p.replicas (w.client cs.c) cs.state cs.sent x ToCommit → CommitLock p.replicas w' x × Quorum p.replicas (VotedCommit w' x)
       client cs (Weighed k vs u acs ph (All_commit a b c) e f g k' z) = fast cs x k' k vs acs (subst (λ (y : Option Choice). (w.client cs.c).phase ≡ Prepared k vs y acs) a ph) c e f g z
       client cs (Weighed k vs u acs ph (One_final a b c) e f g k' z) = cc
       client cs (Weighed k vs u acs ph (By_quorum a b) e f g k' z) = let h = weighed cs x ToCommit k vs u acs ph a b e in (commit_lock_stays p w w' q st x (Accepted_commit 0 h.0), more (s.proposals.commit x 0 _ h.1))

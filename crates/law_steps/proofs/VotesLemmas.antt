@@ -10,7 +10,7 @@ use Rattle.protocol.specs.Replica.Acceptor.{decided, commits}
 use Rattle.protocol.specs.Replica.Votes.{casts, cast_on, new_cast, may_vote, verdict, vote, Cast, conflicts, conflicts_with_base, misses, is_commit_vote}
 use Rattle.protocol.proofs.TestLemmas.{and_right}
 use Rattle.protocol.proofs.NamesLemmas.{same_exec_tells}
-use Rattle.law_steps.proofs.Known.{IsWell, commit_finds, some_from, found, commit_on}
+use Rattle.law_steps.proofs.KnownLemmas.{IsWell, commit_finds, some_from, found, commit_on}
 
 -- a new vote is the verdict on a Prepare
 pub NewVote : Handled → Envelope → Exec → Vote → Type 0

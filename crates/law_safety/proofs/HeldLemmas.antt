@@ -19,8 +19,8 @@ use Rattle.protocol.specs.Warden.Base.{entries_of}
 use Rattle.protocol.proofs.TestLemmas.{and_left}
 use Rattle.protocol.proofs.NamesLemmas.{key_is, key_itself, wid_itself, wid_within}
 use Rattle.protocol.proofs.ListsLemmas.{IsIn-cases, IsIn-map}
-use Rattle.law_steps.proofs.Dropped.{true_false, IsIn-filtered}
-use Rattle.law_safety.proofs.Bases.{entry_wid}
+use Rattle.law_steps.proofs.TakenLemmas.{true_false, IsIn-filtered}
+use Rattle.law_safety.proofs.BaseEntries.{entry_wid}
 
 last_none : (x : Exec) (s : Bool) (i : ℕ) (k : Key) (ws : List Write) → last_write x s i k ws ≡ None → (e : BaseEntry) → IsIn e (entries_of x i ws) → e.key ≡ k → ⊥
 last_none x s i k [] q e j f = j

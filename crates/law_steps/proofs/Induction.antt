@@ -13,11 +13,11 @@ use Rattle.protocol.specs.World.Events.{at, to_all, parcel}
 use Rattle.protocol.proofs.ReplicaGrows.{cast_stays}
 use Rattle.protocol.proofs.ListsLemmas.{IsIn-cases, IsIn-map, IsIn-flat_map, at_cases, at_same}
 use Rattle.law_steps.proofs.Reach.{Step, Reach, GotAt, HeardAt}
-use Rattle.law_steps.proofs.Acts.{Act}
-use Rattle.law_steps.proofs.Wards.{WAct}
+use Rattle.law_steps.proofs.ClientActs.{Act}
+use Rattle.law_steps.proofs.WardenActs.{WAct}
 use Rattle.law_steps.proofs.Reach.Step.{Stands, Client_acts, Replica_acts, Warden_acts}
 use Rattle.law_steps.proofs.Reach.From.{Begins, Next}
-use Rattle.law_steps.proofs.Spoken.{spoken}
+use Rattle.law_steps.proofs.SaysLemmas.{spoken}
 
 -- who sends to all replicas
 pub from_to_all : (n : ℕ) (node : NodeId) (bs : List Body) (e : Envelope) → IsIn e (flat_map (to_all n node) bs) → (e.from ≡ node) × IsIn e.body bs

@@ -10,8 +10,8 @@ use Rattle.protocol.specs.World.State.{World}
 use Rattle.protocol.proofs.TestLemmas.{and_left, and_right}
 use Rattle.protocol.proofs.NamesLemmas.{key_is, key_itself}
 use Rattle.protocol.specs.World.Decided.{UpTo, WasSent}
-use Rattle.law_steps.proofs.Dropped.{before_then, then_before, true_false, before_up_to, before_self as self, dropped_taken}
-use Rattle.law_steps.proofs.Votes.{any_true, any_in}
+use Rattle.law_steps.proofs.TakenLemmas.{before_then, then_before, true_false, before_up_to, before_self as self, dropped_taken}
+use Rattle.law_steps.proofs.VotesLemmas.{any_true, any_in}
 use Rattle.std.proofs.Common.{ap, subst, sym, ◌∙◌, arith, ℕ, ◌≤◌, inl, inr, List, ◌∷◌, [], true, ◌≡◌}
 use Rattle.std.specs.Prelude.{suc}
 use Rattle.protocol.proofs.NamesLemmas.{key_irreflexive}

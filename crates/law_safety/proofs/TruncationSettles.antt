@@ -1,5 +1,5 @@
 use Rattle.protocol.proofs.QuorumsLemmas.{named_quorum}
-use Rattle.law_steps.proofs.Known.{choice_cases}
+use Rattle.law_steps.proofs.KnownLemmas.{choice_cases}
 use Rattle.std.proofs.Common.{[], ◌≡◌, ℕ, ◌<◌, ◌≤◌, ◌⊎◌, ◌≢◌, inl, inr, refl, ap, sym, ◌∙◌, subst, true, false, Bool, cond, List, ◌∷◌, ◌++◌, Option, Some, None, length}
 use Rattle.std.specs.Prelude.{map, flat_map, not}
 use Rattle.std.specs.Option.{is_some}
@@ -19,25 +19,25 @@ use Rattle.law_safety.specs.Bases.IsNamedByAnswers.{As_committed as Names_commit
 use Rattle.protocol.proofs.NamesLemmas.{exec_is}
 use Rattle.protocol.proofs.ListsLemmas.{map_in, flat_map_in, all_in, IsIn-left, IsIn-right, IsIn-cases, IsIn-flat_map}
 use Rattle.protocol.proofs.QuorumsLemmas.{quorums_meet}
-use Rattle.law_steps.proofs.Known.{found}
+use Rattle.law_steps.proofs.KnownLemmas.{found}
 use Rattle.protocol.specs.World.Decided.{UpTo, WasSent}
-use Rattle.law_steps.proofs.Dropped.{up_to_trans, IsIn-filter}
-use Rattle.law_steps.proofs.Fenced.{Named}
-use Rattle.law_steps.proofs.Fenced.Named.{As_committed, As_voted, As_abandoned, As_dropped}
-use Rattle.law_steps.proofs.Votes.{any_true}
-use Rattle.law_steps.proofs.Mail.{took_reach}
+use Rattle.law_steps.proofs.TakenLemmas.{up_to_trans, IsIn-filter}
+use Rattle.law_steps.proofs.FencedFacts.{Named}
+use Rattle.law_steps.proofs.FencedFacts.Named.{As_committed, As_voted, As_abandoned, As_dropped}
+use Rattle.law_steps.proofs.VotesLemmas.{any_true}
+use Rattle.law_steps.proofs.MailLemmas.{took_reach}
 use Rattle.law_steps.proofs.Reach.{Reach}
-use Rattle.law_safety.proofs.One.{one_reach}
+use Rattle.law_safety.proofs.OneProposal.{one_reach}
 use Rattle.law_safety.specs.Locks.{VotedCommit, Shut, AbandonLock}
-use Rattle.law_safety.proofs.Locks.{locks_clash, cast_found}
+use Rattle.law_safety.proofs.LocksLemmas.{locks_clash, cast_found}
 use Rattle.law_safety.specs.Locks.Shut.{Fenced_out}
 use Rattle.law_safety.specs.Locks.AbandonLock.{All_shut}
-use Rattle.law_safety.proofs.Bases.{HasEntry, Written}
-use Rattle.law_safety.proofs.WardEvidence.{ward_reach, decided_sent, FencedPartFact}
-use Rattle.law_safety.proofs.Chosen.{Safe}
-use Rattle.law_safety.proofs.Contents.{contents_reach}
-use Rattle.law_safety.proofs.Shapes.{commit_sent, Shaped, shaped_reach}
-use Rattle.law_safety.proofs.Entries.{entry_trans, puts_hold, puts_of}
+use Rattle.law_safety.proofs.BaseEntries.{HasEntry, Written}
+use Rattle.law_safety.proofs.WardenEvidence.{ward_reach, decided_sent, FencedPartFact}
+use Rattle.law_safety.proofs.ChoiceOfTolds.{Safe}
+use Rattle.law_safety.proofs.OneContent.{contents_reach}
+use Rattle.law_safety.proofs.ShapedBodies.{commit_sent, Shaped, shaped_reach}
+use Rattle.law_safety.proofs.BaseLemmas.{entry_trans, puts_hold, puts_of}
 
 pub is_commit : (o : Option Vote) → (o ≡ Some Commit) ⊎ (o ≢ Some Commit)
 is_commit None = inr (λ e. cc)

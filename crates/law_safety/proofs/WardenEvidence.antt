@@ -10,25 +10,25 @@ use Rattle.protocol.specs.Quorums.{quorum, HasNoRepeats}
 use Rattle.protocol.specs.Warden.State.{WardenState, Round, ToldAnswer, Proposal, DecidedProposal, Parcel, FencedAnswer, Truncation}
 use Rattle.protocol.specs.Warden.Recovery.{with_accept, recover, fixed, to_client}
 use Rattle.protocol.specs.Warden.Truncation.{drop_sent}
-use Rattle.law_steps.proofs.Fenced.{FencedFact, fenced_more}
+use Rattle.law_steps.proofs.FencedFacts.{FencedFact, fenced_more}
 use Rattle.protocol.specs.Warden.State.Parcel.{To_all}
 use Rattle.protocol.specs.World.State.{Plan, World, warden_rules}
 use Rattle.protocol.specs.World.Events.{parcel}
 use Rattle.std.proofs.lemmas.List.{length-append}
 use Rattle.protocol.proofs.NamesLemmas.{exec_is}
 use Rattle.protocol.proofs.ListsLemmas.{IsIn-left, IsIn-right, IsIn-cases, at_cases, map_in}
-use Rattle.law_steps.proofs.Wards.{WAct, told_round}
-use Rattle.law_steps.proofs.Wards.WAct.{Stills, Asks, Tolds, Accepts, Begins_cut, Counts_fenced, Ends_cut}
-use Rattle.law_steps.proofs.Reach.{Step, Reach, WardenActs, HeardAt}
+use Rattle.law_steps.proofs.WardenActs.{WAct, told_round}
+use Rattle.law_steps.proofs.WardenActs.WAct.{Stills, Asks, Tolds, Accepts, Begins_cut, Counts_fenced, Ends_cut}
+use Rattle.law_steps.proofs.Reach.{Step, Reach, ByWardenAct, HeardAt}
 use Rattle.law_steps.proofs.Reach.Step.{Stands, Client_acts, Replica_acts, Warden_acts}
 use Rattle.law_steps.proofs.Reach.From.{Begins, Next}
-use Rattle.law_steps.proofs.Mail.{took_reach}
-use Rattle.law_steps.proofs.Facts.{RFact, ToldFact, AcceptedFact, facts_reach, fact_cons}
-use Rattle.law_steps.proofs.WardFacts.{round_found, put_in}
+use Rattle.law_steps.proofs.MailLemmas.{took_reach}
+use Rattle.law_steps.proofs.ReplicaFacts.{RFact, ToldFact, AcceptedFact, facts_reach, fact_cons}
+use Rattle.law_steps.proofs.WardenFacts.{round_found, put_in}
 use Rattle.protocol.proofs.DistinctLemmas.{distinct_more, distinct_map_more}
-use Rattle.law_safety.proofs.Evidence.{absent_id, accepted_fact_grows, upto_in}
+use Rattle.law_safety.proofs.ClientEvidence.{absent_id, accepted_fact_grows, upto_in}
 use Rattle.protocol.specs.World.Decided.{WasSent}
-use Rattle.law_safety.proofs.Locks.{sent_grows, replica_grows}
+use Rattle.law_safety.proofs.LocksLemmas.{sent_grows, replica_grows}
 
 -- what a told part stands for
 abbrev pub PartFact : ℕ → World → Exec → ℕ → ToldAnswer → Type 0
@@ -76,7 +76,7 @@ ward_grows p w w' st s t = record {
   trunc = λ c i. let e = t.trunc c i in record { answer = λ a j. fenced_grows p w w' st c.w a (e.answer a j); answerers = e.answerers };
 }
 
-ward_sent : (p : Plan) (w w' : World) (s : WardenActs p w w') → 0 < p.replicas → (b : Body) → IsIn (To_all b) s.sent → WasSent w' b
+ward_sent : (p : Plan) (w w' : World) (s : ByWardenAct p w w') → 0 < p.replicas → (b : Body) → IsIn (To_all b) s.sent → WasSent w' b
 ward_sent p w w' s pos b i = let k = one s.sent i in record { envelope = k.0; there = subst (λ l. IsIn k.0 l) (sym s.mail) (IsIn-right k.0 w.mail _ k.1); body = k.2 }
   where
     one : (ps : List Parcel) → IsIn (To_all b) ps → (e : Envelope) × IsIn e (flat_map (parcel p.replicas (Warden s.k)) ps) × (e.body ≡ b)

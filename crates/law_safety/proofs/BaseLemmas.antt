@@ -4,7 +4,7 @@ use Rattle.protocol.specs.Words.{BaseEntry, same_key, key_before, wid_before}
 use Rattle.protocol.specs.Lists.{IsIn}
 use Rattle.protocol.specs.Warden.Base.{put_entry, put_entries}
 use Rattle.protocol.proofs.NamesLemmas.{key_is, wid_trans, wid_less, wid_itself}
-use Rattle.law_safety.proofs.Bases.{HasEntry}
+use Rattle.law_safety.proofs.BaseEntries.{HasEntry}
 
 -- the base that is put together holds each entry, or a greater one, and no other
 entry_self : (bs : List BaseEntry) (d : BaseEntry) → IsIn d bs → HasEntry bs d

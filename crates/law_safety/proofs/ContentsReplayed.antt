@@ -7,13 +7,13 @@ use Rattle.protocol.specs.World.State.{Plan, World, rules, first_world}
 use Rattle.protocol.specs.World.Events.{replay_from}
 use Rattle.law_safety.specs.Replays.{IsReplay, HasReplay, ContentsReplayed}
 use Rattle.protocol.specs.World.Decided.{WasSent}
-use Rattle.law_steps.proofs.Phases.{running_under_way}
+use Rattle.law_steps.proofs.PhaseLemmas.{running_under_way}
 use Rattle.law_steps.proofs.Reach.{Reach, events_reach}
 use Rattle.law_steps.proofs.Reach.From.{Begins, Next}
 use Rattle.law_steps.proofs.ClientFacts.{rec_reach}
-use Rattle.law_safety.proofs.Stays.{Origin, origin}
-use Rattle.law_safety.proofs.Stays.Origin.{Old, Of_replica, Of_client, Of_warden}
-use Rattle.law_safety.proofs.Tried.{try_rec, kept_attempt}
+use Rattle.law_safety.proofs.LocksStay.{Origin, origin}
+use Rattle.law_safety.proofs.LocksStay.Origin.{Old, Of_replica, Of_client, Of_warden}
+use Rattle.law_safety.proofs.OneExecution.{try_rec, kept_attempt}
 
 -- the content that a client prepares
 content_replay : (p : Plan) (c : ClientState) (x : Exec) (a : Attempt) (e : Ending) (k : Content) → c.begun ≡ a.txn → (walk (rules p x.ver.client) c).ending ≡ Some e → k ≡ content (rules p x.ver.client) c e → IsReplay p x a k

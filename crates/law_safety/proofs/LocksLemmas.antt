@@ -16,11 +16,11 @@ use Rattle.protocol.proofs.ReplicaGrows.{cast_stays}
 use Rattle.protocol.proofs.ListsLemmas.{IsIn-right, IsIn-cases, IsIn-one_when, at_cases}
 use Rattle.protocol.specs.Quorums.{Quorum}
 use Rattle.protocol.proofs.QuorumsLemmas.{quorums_meet}
-use Rattle.law_steps.proofs.Accepts.{acceptance_taken}
+use Rattle.law_steps.proofs.AcceptorLemmas.{acceptance_taken}
 use Rattle.law_steps.proofs.Reach.{Step, Reach}
 use Rattle.law_steps.proofs.Reach.Step.{Stands, Client_acts, Replica_acts, Warden_acts}
-use Rattle.law_steps.proofs.Mail.{took_reach, mail_grows}
-use Rattle.law_safety.proofs.One.{one_view}
+use Rattle.law_steps.proofs.MailLemmas.{took_reach, mail_grows}
+use Rattle.law_safety.proofs.OneProposal.{one_view}
 
 -- what more envelopes keep of a list, taking keeps, and each step keeps of each replica's
 pub taking_grows : (F : Handled → Type 0) → ((h : Handled) (m : Envelope) → F h → F (m ∷ h)) → (h : Handled) (m : Envelope) → F h → F (after_taking h m)

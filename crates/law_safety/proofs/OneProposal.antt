@@ -11,19 +11,19 @@ use Rattle.protocol.specs.Warden.State.{Round, Proposal}
 use Rattle.protocol.specs.Warden.Recovery.{round_of}
 use Rattle.protocol.specs.World.State.{Plan, World, rules}
 use Rattle.protocol.specs.World.Events.{to_all}
-use Rattle.law_steps.proofs.Phases.{running_under_way}
-use Rattle.law_steps.proofs.Acts.{Act, IsQuiet, AllQuiet, IsRunning, IsUnderWay}
+use Rattle.law_steps.proofs.PhaseLemmas.{running_under_way}
+use Rattle.law_steps.proofs.ClientActs.{Act, IsQuiet, AllQuiet, IsRunning, IsUnderWay}
 use Rattle.law_steps.specs.Executions.{IsEarlier}
-use Rattle.law_steps.proofs.Acts.Act.{Quiet, Advances, Prepares, Counts, Proposes, Accepts, Decides, Gives_up, Learns}
+use Rattle.law_steps.proofs.ClientActs.Act.{Quiet, Advances, Prepares, Counts, Proposes, Accepts, Decides, Gives_up, Learns}
 use Rattle.protocol.proofs.ListsLemmas.{IsIn-cases, IsIn-right}
-use Rattle.law_steps.proofs.Spoken.{spoken}
-use Rattle.law_steps.proofs.Reach.{Step, Reach, ClientActs, GotAt}
+use Rattle.law_steps.proofs.SaysLemmas.{spoken}
+use Rattle.law_steps.proofs.Reach.{Step, Reach, ByClientAct, GotAt}
 use Rattle.law_steps.proofs.Reach.Step.{Stands, Client_acts, Replica_acts, Warden_acts}
 use Rattle.law_steps.proofs.Reach.From.{Begins, Next}
-use Rattle.law_steps.proofs.Provenance.{from_to_all, from_parcels}
-use Rattle.law_steps.proofs.Facts.{RFact, facts_reach}
+use Rattle.law_steps.proofs.Induction.{from_to_all, from_parcels}
+use Rattle.law_steps.proofs.ReplicaFacts.{RFact, facts_reach}
 use Rattle.law_steps.proofs.ClientFacts.{CFact, At, HasPrepared, HasProposed, client_facts_reach, rec_reach}
-use Rattle.law_steps.proofs.WardFacts.{WFact, round_found, ward_facts_reach, wrec_reach}
+use Rattle.law_steps.proofs.WardenFacts.{WFact, round_found, ward_facts_reach, wrec_reach}
 
 -- which client sent a Prepare
 pub prepare_from : (p : Plan) (w : World) → Reach p w → (e : Envelope) (x : Exec) (k : Content) → IsIn e w.mail → e.body ≡ Prepare x k → (e.from ≡ Client x.ver.client) × At (HasPrepared k) x (w.client x.ver.client)
@@ -211,7 +211,7 @@ warden_mute p w w' q s sent m k from = record {
     final e x d o i b f = let v = warden_view p w' q k x 0 f.1.0 f.1.1 in let z : 0 ≡ k + v.0 * p.wardens = v.1 in let l = f.0.0 in omega (arith, z, l)
 
 -- what one client sends in one act
-client_one : (p : Plan) (w w' : World) → Reach p w → ClientActs p w w' → One w → One w'
+client_one : (p : Plan) (w w' : World) → Reach p w → ByClientAct p w w' → One w → One w'
 client_one p w w' q s t = record {
   prepare = λ e f x k l i j a b. pre e f x k l i j a b (new e (rw s.mail at i)) (new f (rw s.mail at j));
   finalize = λ e f x d c o u i j a b. fin e f x d c o u a b (new e (rw s.mail at i)) (new f (rw s.mail at j));

@@ -15,29 +15,29 @@ use Rattle.protocol.proofs.ReplicaGrows.{decided_stays}
 use Rattle.protocol.proofs.ListsLemmas.{IsIn-cases, at_cases}
 use Rattle.protocol.specs.Quorums.{Quorum}
 use Rattle.protocol.proofs.QuorumsLemmas.{quorums_meet}
-use Rattle.law_steps.proofs.Known.{mapped_some, found}
-use Rattle.law_steps.proofs.Votes.{new_vote, verdict_commit, earlier_settled, final_conflict, conflicts_both_ways, no_conflict_alike}
-use Rattle.law_steps.proofs.Mail.{took_reach}
+use Rattle.law_steps.proofs.KnownLemmas.{mapped_some, found}
+use Rattle.law_steps.proofs.VotesLemmas.{new_vote, verdict_commit, earlier_settled, final_conflict, conflicts_both_ways, no_conflict_alike}
+use Rattle.law_steps.proofs.MailLemmas.{took_reach}
 use Rattle.law_steps.proofs.Reach.{Step, Reach, events_reach, GotAt, HeardAt}
 use Rattle.law_steps.proofs.Reach.Step.{Stands, Client_acts, Replica_acts, Warden_acts}
 use Rattle.law_steps.proofs.Reach.From.{Begins, Next}
-use Rattle.law_steps.proofs.Facts.{well_reach, taking_reach}
-use Rattle.law_safety.proofs.One.{one_reach}
+use Rattle.law_steps.proofs.ReplicaFacts.{well_reach, taking_reach}
+use Rattle.law_safety.proofs.OneProposal.{one_reach}
 use Rattle.law_safety.specs.Locks.{VotedCommit, Shut, AbandonLock}
-use Rattle.law_safety.proofs.Locks.{locks_clash, cast_found, sent_grows, voted_prepared}
+use Rattle.law_safety.proofs.LocksLemmas.{locks_clash, cast_found, sent_grows, voted_prepared}
 use Rattle.law_safety.specs.Locks.Shut.{Conflicting}
 use Rattle.law_safety.specs.Locks.AbandonLock.{All_shut}
-use Rattle.law_safety.proofs.Stays.{CommitGround, abandon_lock_stays, Origin, origin, cast_sent}
-use Rattle.law_safety.proofs.Evidence.{decisions_reach}
-use Rattle.law_safety.proofs.WardEvidence.{ward_reach, decided_sent}
-use Rattle.law_safety.proofs.Chosen.{Safe}
-use Rattle.law_safety.proofs.Safety.{proposals_step, abandoned_step, committed_step}
+use Rattle.law_safety.proofs.LocksStay.{CommitGround, abandon_lock_stays, Origin, origin, cast_sent}
+use Rattle.law_safety.proofs.ClientEvidence.{decisions_reach}
+use Rattle.law_safety.proofs.WardenEvidence.{ward_reach, decided_sent}
+use Rattle.law_safety.proofs.ChoiceOfTolds.{Safe}
+use Rattle.law_safety.proofs.InvariantStep.{proposals_step, abandoned_step, committed_step}
 use Rattle.protocol.specs.Warden.Base.{entries_of}
-use Rattle.law_safety.proofs.Stays.Origin.{Old, Of_replica, Of_client, Of_warden}
-use Rattle.law_steps.proofs.Dropped.{takes_above, cast_is, cast_above_none, dropped_taken, no_base}
-use Rattle.law_safety.proofs.Bases.{HasEntry, Written, entry_conflict, dropped_conflict, dropped_sent}
-use Rattle.law_safety.proofs.Shapes.{commit_sent, client_no_drop, ward_dropped}
-use Rattle.law_safety.proofs.Cuts.{one_content, commit_prepared, apart_locks, CommitSent, each_or, is_commit, cut_now, base_holds, base_written}
+use Rattle.law_safety.proofs.LocksStay.Origin.{Old, Of_replica, Of_client, Of_warden}
+use Rattle.law_steps.proofs.TakenLemmas.{takes_above, cast_is, cast_above_none, dropped_taken, no_base}
+use Rattle.law_safety.proofs.BaseEntries.{HasEntry, Written, entry_conflict, dropped_conflict, dropped_sent}
+use Rattle.law_safety.proofs.ShapedBodies.{commit_sent, client_no_drop, ward_dropped}
+use Rattle.law_safety.proofs.TruncationSettles.{one_content, commit_prepared, apart_locks, CommitSent, each_or, is_commit, cut_now, base_holds, base_written}
 
 module _ (p : Plan) (pos : 0 < p.replicas) where
   -- the content of a commit is that of the cast

@@ -12,7 +12,7 @@ use Rattle.protocol.specs.Replica.Readers.{due, envelope_from}
 use Rattle.protocol.specs.World.State.{Plan, World}
 use Rattle.protocol.specs.World.Decided.{WasSentBy}
 use Rattle.protocol.proofs.ListsLemmas.{IsIn-left, IsIn-right, IsIn-cases, IsIn-one_when, at_cases, map_in}
-use Rattle.law_steps.proofs.Mail.{mail_grows}
+use Rattle.law_steps.proofs.MailLemmas.{mail_grows}
 use Rattle.law_steps.proofs.Reach.{Step, Reach}
 use Rattle.law_steps.proofs.Reach.Step.{Stands, Client_acts, Replica_acts, Warden_acts}
 use Rattle.law_steps.proofs.Reach.From.{Begins, Next}

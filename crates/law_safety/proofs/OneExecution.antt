@@ -10,23 +10,23 @@ use Rattle.law_steps.specs.Executions.{IsEarlier}
 use Rattle.law_safety.specs.Tries.{OneExecution, OneTry}
 use Rattle.protocol.proofs.ListsLemmas.{at_cases, at_same}
 use Rattle.protocol.proofs.QuorumsLemmas.{quorums_meet}
-use Rattle.law_steps.proofs.Phases.{running_under_way}
-use Rattle.law_steps.proofs.Acts.{Act, IsRunning, IsAborted, IsOn, TryStep}
-use Rattle.law_steps.proofs.Acts.TryStep.{Keeps, Next_exec, Next_try}
-use Rattle.law_steps.proofs.Acts.Act.{Quiet, Advances, Prepares, Counts, Proposes, Accepts, Decides, Gives_up, Learns}
+use Rattle.law_steps.proofs.PhaseLemmas.{running_under_way}
+use Rattle.law_steps.proofs.ClientActs.{Act, IsRunning, IsAborted, IsOn, TryStep}
+use Rattle.law_steps.proofs.ClientActs.TryStep.{Keeps, Next_exec, Next_try}
+use Rattle.law_steps.proofs.ClientActs.Act.{Quiet, Advances, Prepares, Counts, Proposes, Accepts, Decides, Gives_up, Learns}
 use Rattle.law_steps.proofs.Reach.{Step, Reach, GotAt, events_reach}
 use Rattle.law_steps.proofs.Reach.Step.{Stands, Client_acts, Replica_acts, Warden_acts}
 use Rattle.law_steps.proofs.Reach.From.{Begins, Next}
 use Rattle.law_steps.proofs.ClientFacts.{At, HasPrepared, rec_reach}
-use Rattle.law_safety.proofs.One.{prepare_from, earlier_itself, not_at, running_between, running_prepared}
-use Rattle.law_safety.proofs.Locks.{voted_prepared}
-use Rattle.law_safety.proofs.Stays.{Origin, origin}
-use Rattle.law_safety.proofs.Stays.Origin.{Old, Of_replica, Of_client, Of_warden}
-use Rattle.law_safety.proofs.Evidence.{decisions_reach}
+use Rattle.law_safety.proofs.OneProposal.{prepare_from, earlier_itself, not_at, running_between, running_prepared}
+use Rattle.law_safety.proofs.LocksLemmas.{voted_prepared}
+use Rattle.law_safety.proofs.LocksStay.{Origin, origin}
+use Rattle.law_safety.proofs.LocksStay.Origin.{Old, Of_replica, Of_client, Of_warden}
+use Rattle.law_safety.proofs.ClientEvidence.{decisions_reach}
 use Rattle.law_safety.proofs.ClientSent.{quiet_not, in_single, in_none}
-use Rattle.law_safety.proofs.Cuts.{CommitSent, apart_locks}
-use Rattle.law_safety.proofs.Agreed.{safe_reach}
-use Rattle.law_safety.proofs.Based.{committed_sent}
+use Rattle.law_safety.proofs.TruncationSettles.{CommitSent, apart_locks}
+use Rattle.law_safety.proofs.InvariantHolds.{safe_reach}
+use Rattle.law_safety.proofs.BaseOfDrop.{committed_sent}
 
 abbrev pub IsFalling : List Attempt → Type 0
 IsFalling [] = Unit {0}

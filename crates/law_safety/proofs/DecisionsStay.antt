@@ -12,17 +12,17 @@ use Rattle.protocol.specs.World.Events.{replay_from}
 use Rattle.protocol.specs.World.Decided.{decided_by, WasSent}
 use Rattle.protocol.proofs.ReplicaGrows.{decided_stays}
 use Rattle.protocol.proofs.ListsLemmas.{at_cases}
-use Rattle.law_steps.proofs.Known.{mapped_some, found, some_from}
+use Rattle.law_steps.proofs.KnownLemmas.{mapped_some, found, some_from}
 use Rattle.law_steps.proofs.Reach.{Step, Reach, From, from_trans, events_reach, HeardAt}
 use Rattle.law_steps.proofs.Reach.Step.{Stands, Client_acts, Replica_acts, Warden_acts}
 use Rattle.law_steps.proofs.Reach.From.{Begins, Next}
-use Rattle.law_steps.proofs.WardFacts.{ward_stays, wrec_reach, wardens_positive, wardens_range}
+use Rattle.law_steps.proofs.WardenFacts.{ward_stays, wrec_reach, wardens_positive, wardens_range}
 use Rattle.law_safety.specs.Agreement.{DecisionsStay}
-use Rattle.law_safety.proofs.Locks.{replica_grows, sent_grows}
-use Rattle.law_safety.proofs.Stays.{decision_grows}
-use Rattle.law_safety.proofs.Cuts.{apart_locks}
-use Rattle.law_safety.proofs.Agreed.{safe_reach, decided_by_sent}
-use Rattle.law_safety.proofs.Based.{find_in}
+use Rattle.law_safety.proofs.LocksLemmas.{replica_grows, sent_grows}
+use Rattle.law_safety.proofs.LocksStay.{decision_grows}
+use Rattle.law_safety.proofs.TruncationSettles.{apart_locks}
+use Rattle.law_safety.proofs.InvariantHolds.{safe_reach, decided_by_sent}
+use Rattle.law_safety.proofs.BaseOfDrop.{find_in}
 
 -- what a warden decided stays
 ward_decision_grows : (p : Plan) (w w' : World) → Reach p w → Step p w w' → (k : ℕ) (x : Exec) (d : Choice) (o : Option Content) → IsIn (record { exec = x; proposal = record { choice = d; content = o } }) (w.warden k).decisions → IsIn (record { exec = x; proposal = record { choice = d; content = o } }) (w'.warden k).decisions

@@ -10,17 +10,17 @@ use Rattle.protocol.specs.Replica.Says.{answer, refusal}
 use Rattle.protocol.specs.World.State.{Plan, World}
 use Rattle.protocol.proofs.TestLemmas.{lt_is}
 use Rattle.protocol.proofs.ListsLemmas.{IsIn-right, IsIn-map, IsIn-one_when, at_cases}
-use Rattle.law_steps.proofs.Accepts.{IsTold, told_stays, told_new, accept_on_backed}
-use Rattle.law_steps.proofs.Known.{Took, took_more, known_taken, IsWell, well_taking, Finds, commit_finds, known_commit, known_cast, known_accepted, accepted_content_finds}
-use Rattle.law_steps.proofs.Spoken.{Spoken, spoken, voted_answer, IsNote}
-use Rattle.law_steps.proofs.Spoken.Spoken.{Answers, Refuses, Notes}
+use Rattle.law_steps.proofs.AcceptorLemmas.{IsTold, told_stays, told_new, accept_on_backed}
+use Rattle.law_steps.proofs.KnownLemmas.{Took, took_more, known_taken, IsWell, well_taking, Finds, commit_finds, known_commit, known_cast, known_accepted, accepted_content_finds}
+use Rattle.law_steps.proofs.SaysLemmas.{Spoken, spoken, voted_answer, IsNote}
+use Rattle.law_steps.proofs.SaysLemmas.Spoken.{Answers, Refuses, Notes}
 use Rattle.law_steps.proofs.Reach.{Reach}
 use Rattle.law_steps.proofs.Reach.Step.{Stands, Client_acts, Replica_acts, Warden_acts}
 use Rattle.law_steps.proofs.Reach.From.{Begins, Next}
-use Rattle.law_steps.proofs.Provenance.{ReplicasSaid, replicas_said_reach}
+use Rattle.law_steps.proofs.Induction.{ReplicasSaid, replicas_said_reach}
 use Rattle.protocol.proofs.ReplicaGrows.{cast_stays}
-use Rattle.law_steps.proofs.Dropped.{IsTaking, taking_more}
-use Rattle.law_steps.proofs.Fenced.{FencedFact, fenced_more, fence_answer}
+use Rattle.law_steps.proofs.TakenLemmas.{IsTaking, taking_more}
+use Rattle.law_steps.proofs.FencedFacts.{FencedFact, fenced_more, fence_answer}
 
 -- each replica's list is well in every world
 pub well_reach : (p : Plan) (w : World) → Reach p w → (r : ℕ) → IsWell (w.replica r)

@@ -15,24 +15,24 @@ use Rattle.law_safety.specs.Locks.{AbandonLock}
 use Rattle.law_safety.specs.Bases.{FenceNames, DropSettles, MissesAt, TwoVotes}
 use Rattle.protocol.proofs.NamesLemmas.{same_exec_refl, key_is, key_itself, key_trans, key_order}
 use Rattle.protocol.proofs.ListsLemmas.{IsIn-right}
-use Rattle.law_steps.proofs.Known.{Finds, finds_cons, some_from, IsWell}
-use Rattle.law_steps.proofs.Dropped.{up_to_trans, before_up_to, before_then, then_before, true_false, takes_above, cast_is, cast_above_none, before_self, IsTaking}
-use Rattle.law_steps.proofs.Votes.{any_in, verdict_commit, earlier_settled, conflicts_both_ways}
-use Rattle.law_steps.proofs.Mail.{took_reach}
+use Rattle.law_steps.proofs.KnownLemmas.{Finds, finds_cons, some_from, IsWell}
+use Rattle.law_steps.proofs.TakenLemmas.{up_to_trans, before_up_to, before_then, then_before, true_false, takes_above, cast_is, cast_above_none, before_self, IsTaking}
+use Rattle.law_steps.proofs.VotesLemmas.{any_in, verdict_commit, earlier_settled, conflicts_both_ways}
+use Rattle.law_steps.proofs.MailLemmas.{took_reach}
 use Rattle.law_steps.proofs.Reach.{Reach, From, from_trans, events_reach, GotAt, HeardAt}
 use Rattle.law_steps.proofs.Reach.From.{Begins, Next}
-use Rattle.law_steps.proofs.Facts.{RFact, facts_reach, well_reach, taking_reach}
+use Rattle.law_steps.proofs.ReplicaFacts.{RFact, facts_reach, well_reach, taking_reach}
 use Rattle.law_steps.proofs.ClientFacts.{CFact, client_facts_reach}
-use Rattle.law_steps.proofs.WardFacts.{WFact, ward_facts_reach}
-use Rattle.law_safety.proofs.Bases.{both, or_left_in, entry_write, dropped_sent}
-use Rattle.law_safety.proofs.Stays.{Origin, origin, abandon_lock_stays}
-use Rattle.law_safety.proofs.Locks.{sent_grows, cast_prepare}
-use Rattle.law_safety.proofs.Contents.{contents_reach}
-use Rattle.law_safety.proofs.Stays.Origin.{Old, Of_replica, Of_client, Of_warden}
-use Rattle.law_safety.proofs.Cuts.{CommitSent, apart_locks, one_content, named_fact}
-use Rattle.law_safety.proofs.Shapes.{commit_decided, client_no_drop, ward_dropped}
-use Rattle.law_safety.proofs.Entries.{put_of}
-use Rattle.law_safety.proofs.Agreed.{commit_ground, safe_reach, decided_by_sent}
+use Rattle.law_steps.proofs.WardenFacts.{WFact, ward_facts_reach}
+use Rattle.law_safety.proofs.BaseEntries.{both, or_left_in, entry_write, dropped_sent}
+use Rattle.law_safety.proofs.LocksStay.{Origin, origin, abandon_lock_stays}
+use Rattle.law_safety.proofs.LocksLemmas.{sent_grows, cast_prepare}
+use Rattle.law_safety.proofs.OneContent.{contents_reach}
+use Rattle.law_safety.proofs.LocksStay.Origin.{Old, Of_replica, Of_client, Of_warden}
+use Rattle.law_safety.proofs.TruncationSettles.{CommitSent, apart_locks, one_content, named_fact}
+use Rattle.law_safety.proofs.ShapedBodies.{commit_decided, client_no_drop, ward_dropped}
+use Rattle.law_safety.proofs.BaseLemmas.{put_of}
+use Rattle.law_safety.proofs.InvariantHolds.{commit_ground, safe_reach, decided_by_sent}
 
 pub find_in : {A : Type 0} (name : A → Exec) (x : Exec) (xs : List A) (a : A) → IsIn a xs → name a ≡ x → Finds (find (λ y. same_exec x (name y)) xs)
 find_in name x [] a i e = absurd i

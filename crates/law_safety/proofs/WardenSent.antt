@@ -8,10 +8,10 @@ use Rattle.protocol.specs.Quorums.{quorum}
 use Rattle.protocol.specs.Warden.State.{Round, Proposal, Parcel, WardenRules, WardenState}
 use Rattle.protocol.specs.Warden.Recovery.{with_accept, with_round, to_client, recover, next_view}
 use Rattle.protocol.specs.Warden.State.Parcel.{To_all, To_client}
-use Rattle.law_steps.proofs.Wards.{WAct}
-use Rattle.law_steps.proofs.Wards.WAct.{Stills, Asks, Tolds, Accepts as Ward_accepts, Begins_cut, Counts_fenced, Ends_cut}
-use Rattle.law_steps.proofs.Provenance.{parcel_body}
-use Rattle.law_steps.proofs.WardFacts.{round_found, put_found}
+use Rattle.law_steps.proofs.WardenActs.{WAct}
+use Rattle.law_steps.proofs.WardenActs.WAct.{Stills, Asks, Tolds, Accepts as Ward_accepts, Begins_cut, Counts_fenced, Ends_cut}
+use Rattle.law_steps.proofs.Induction.{parcel_body}
+use Rattle.law_steps.proofs.WardenFacts.{round_found, put_found}
 
 pub to_client_body : (r : WardenRules) (x : Exec) (c : Body) (b : Parcel) → IsIn b (to_client r x c) → parcel_body b ≡ c
 to_client_body r x c b i = go (nat_lt 0 x.ver.client && nat_le x.ver.client r.clients) i

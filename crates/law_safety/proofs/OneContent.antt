@@ -9,27 +9,27 @@ use Rattle.protocol.specs.Client.State.Phase.{Prepared}
 use Rattle.protocol.specs.Warden.State.{WardenState, Round, ToldAnswer, Proposal, Parcel}
 use Rattle.protocol.specs.Warden.Recovery.{fixed, with_content, told_content}
 use Rattle.protocol.specs.World.State.{Plan, World, rules, warden_rules}
-use Rattle.law_steps.proofs.Acts.{Act, IsQuiet}
-use Rattle.law_steps.proofs.Acts.Act.{Quiet, Advances, Prepares, Counts, Proposes, Accepts, Decides, Gives_up, Learns}
-use Rattle.law_safety.proofs.Chosen.{chosen}
+use Rattle.law_steps.proofs.ClientActs.{Act, IsQuiet}
+use Rattle.law_steps.proofs.ClientActs.Act.{Quiet, Advances, Prepares, Counts, Proposes, Accepts, Decides, Gives_up, Learns}
+use Rattle.law_safety.proofs.ChoiceOfTolds.{chosen}
 use Rattle.protocol.proofs.ListsLemmas.{at_cases, at_same, IsIn-right}
 use Rattle.law_steps.proofs.Reach.Step.{Stands, Client_acts, Replica_acts, Warden_acts}
-use Rattle.law_steps.proofs.Reach.{Step, Reach, ClientActs, WardenActs, GotAt, HeardAt}
+use Rattle.law_steps.proofs.Reach.{Step, Reach, ByClientAct, ByWardenAct, GotAt, HeardAt}
 use Rattle.law_steps.proofs.Reach.From.{Begins, Next}
 use Rattle.protocol.specs.World.Decided.{HasContent, WasSent}
-use Rattle.law_steps.proofs.Known.{Took, commit_taken, cast_taken}
-use Rattle.law_steps.proofs.Fenced.{kept_voted}
-use Rattle.law_steps.proofs.Mail.{took_reach, taking_cases}
-use Rattle.law_steps.proofs.Facts.{RFact}
-use Rattle.law_steps.proofs.WardFacts.{WFact, round_found}
-use Rattle.law_safety.proofs.Locks.{sent_grows}
-use Rattle.law_safety.proofs.Stays.{Origin, origin}
-use Rattle.law_steps.proofs.Provenance.{parcel_body}
-use Rattle.law_safety.proofs.Stays.Origin.{Old, Of_replica, Of_client, Of_warden}
-use Rattle.law_safety.proofs.Evidence.{evident_reach}
-use Rattle.law_safety.proofs.WardEvidence.{ward_reach}
+use Rattle.law_steps.proofs.KnownLemmas.{Took, commit_taken, cast_taken}
+use Rattle.law_steps.proofs.FencedFacts.{kept_voted}
+use Rattle.law_steps.proofs.MailLemmas.{took_reach, taking_cases}
+use Rattle.law_steps.proofs.ReplicaFacts.{RFact}
+use Rattle.law_steps.proofs.WardenFacts.{WFact, round_found}
+use Rattle.law_safety.proofs.LocksLemmas.{sent_grows}
+use Rattle.law_safety.proofs.LocksStay.{Origin, origin}
+use Rattle.law_steps.proofs.Induction.{parcel_body}
+use Rattle.law_safety.proofs.LocksStay.Origin.{Old, Of_replica, Of_client, Of_warden}
+use Rattle.law_safety.proofs.ClientEvidence.{evident_reach}
+use Rattle.law_safety.proofs.WardenEvidence.{ward_reach}
 use Rattle.law_safety.proofs.ClientSent.{quiet_not, in_single, in_none}
-use Rattle.law_safety.proofs.WardSent.{ward_decided}
+use Rattle.law_safety.proofs.WardenSent.{ward_decided}
 
 -- each content in the mail is that of a Prepare
 pub record Prepared_contents (w : World) : Type 0 where
@@ -73,7 +73,7 @@ module _ (p : Plan) (pos : 0 < p.replicas) (w w' : World) (q : Reach p w) (st : 
   took_content : (r : ℕ) (x : Exec) (k : Content) → Took (w.replica r) x k → WasSent w (Prepare x k)
   took_content r x k t = c.from t.0.body x k t.2 (record { envelope = t.0; there = ((took_reach p w q).took r t.0 t.1).0; body = refl })
 
-  client_content : (cs : ClientActs p w w') (b : Body) (x : Exec) (k : Content) → IsIn b cs.sent → HasContent b x k → WasSent w' b → WasSent w' (Prepare x k)
+  client_content : (cs : ByClientAct p w w') (b : Body) (x : Exec) (k : Content) → IsIn b cs.sent → HasContent b x k → WasSent w' b → WasSent w' (Prepare x k)
   client_content cs b x k i h t = go cs.act
     where
       not_quiet : (b : Body) → HasContent b x k → IsQuiet b → ⊥
@@ -99,7 +99,7 @@ module _ (p : Plan) (pos : 0 < p.replicas) (w w' : World) (q : Reach p w) (st : 
       go (Learns j d0 l n got e f g u) = absurd (in_none cs.sent b u i)
 
   -- what a warden's round proposes
-  round_content : (ws : WardenActs p w w') (a : Round) → IsIn a (w'.warden ws.k).rounds → (d : Choice) (k : Content) → a.proposal ≡ Some (record { choice = d; content = Some k }) → WasSent w' (Prepare a.exec k)
+  round_content : (ws : ByWardenAct p w w') (a : Round) → IsIn a (w'.warden ws.k).rounds → (d : Choice) (k : Content) → a.proposal ≡ Some (record { choice = d; content = Some k }) → WasSent w' (Prepare a.exec k)
   round_content ws a i d k e =
       let ev = (ward_reach p pos w' (Next w w' q st) ws.k).round a i in
       let f = ev.fixed (record { choice = d; content = Some k }) e in
@@ -110,7 +110,7 @@ module _ (p : Plan) (pos : 0 < p.replicas) (w w' : World) (q : Reach p w) (st : 
   proposal_is : (y : Proposal) (d : Choice) (k : Content) → y.choice ≡ d → y.content ≡ Some k → Some y ≡ Some (record { choice = d; content = Some k })
   proposal_is y d k e f = rw (← e, ← f)
 
-  warden_content : (ws : WardenActs p w w') (a : Parcel) (b : Body) (x : Exec) (k : Content) → IsIn a ws.sent → b ≡ parcel_body a → WFact p.wardens ws.k (w'.warden ws.k) b → HasContent b x k → WasSent w' (Prepare x k)
+  warden_content : (ws : ByWardenAct p w w') (a : Parcel) (b : Body) (x : Exec) (k : Content) → IsIn a ws.sent → b ≡ parcel_body a → WFact p.wardens ws.k (w'.warden ws.k) b → HasContent b x k → WasSent w' (Prepare x k)
   warden_content ws a (Finalize y v d o) x k i z f h = let g = round_found y v (w'.warden ws.k).rounds f.1.0 f.1.1 in
       subst (λ u. WasSent w' (Prepare u k)) (g.1 ∙ h.0) (round_content ws f.1.0 g.0 d k (f.1.2 ∙ ap (λ (u : Option Content). Some (record { choice = d; content = u })) h.1))
   warden_content ws a (Decide y d o) x k i z f h = let r = ward_decided (warden_rules p ws.k) (HeardAt w ws.k) (w.warden ws.k) ws.state ws.sent ws.act a y d o i z in

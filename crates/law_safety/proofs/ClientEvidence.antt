@@ -15,14 +15,14 @@ use Rattle.protocol.proofs.ListsLemmas.{IsIn-left, IsIn-right, IsIn-cases, at_ca
 use Rattle.protocol.proofs.DistinctLemmas.{distinct_more, distinct_map_more, absent}
 use Rattle.std.proofs.lemmas.List.{map-id}
 use Rattle.protocol.specs.Quorums.{HasNoRepeats}
-use Rattle.law_steps.proofs.Acts.{Act, IsRunning, SameStage}
-use Rattle.law_steps.proofs.Acts.Act.{Quiet, Advances, Prepares, Counts, Proposes, Accepts, Decides, Gives_up, Learns}
-use Rattle.law_steps.proofs.Reach.{Step, Reach, ClientActs, GotAt}
+use Rattle.law_steps.proofs.ClientActs.{Act, IsRunning, SameStage}
+use Rattle.law_steps.proofs.ClientActs.Act.{Quiet, Advances, Prepares, Counts, Proposes, Accepts, Decides, Gives_up, Learns}
+use Rattle.law_steps.proofs.Reach.{Step, Reach, ByClientAct, GotAt}
 use Rattle.law_steps.proofs.Reach.Step.{Stands, Client_acts, Replica_acts, Warden_acts}
 use Rattle.law_steps.proofs.Reach.From.{Begins, Next}
-use Rattle.law_steps.proofs.Facts.{RFact, AcceptedFact, facts_reach}
+use Rattle.law_steps.proofs.ReplicaFacts.{RFact, AcceptedFact, facts_reach}
 use Rattle.protocol.specs.World.Decided.{WasSent}
-use Rattle.law_safety.proofs.Locks.{sent_grows, replica_grows, voted_grows}
+use Rattle.law_safety.proofs.LocksLemmas.{sent_grows, replica_grows, voted_grows}
 
 pub absent_id : (j : ℕ) (xs : List ℕ) → list_any (λ i. i == j) xs ≡ false → IsIn j xs → ⊥
 absent_id j xs e i = absent (λ z. z) j xs e (rw map-id i)
@@ -135,7 +135,7 @@ to_all_one n from (c ∷ bs) b l (inl e) = (record { from = from; to = Replica 1
 to_all_one n from (c ∷ bs) b l (inr i) = let k = to_all_one n from bs b l i in (k.0, IsIn-right k.0 (to_all n from c) _ k.1, k.2)
 
 -- what an act sends is in the mail
-act_sent : (p : Plan) (w w' : World) (s : ClientActs p w w') → 0 < p.replicas → (b : Body) → IsIn b s.sent → WasSent w' b
+act_sent : (p : Plan) (w w' : World) (s : ByClientAct p w w') → 0 < p.replicas → (b : Body) → IsIn b s.sent → WasSent w' b
 act_sent p w w' s pos b i = let k = to_all_one p.replicas (Client s.c) s.sent b pos i in record { envelope = k.0; there = rw s.mail (IsIn-right k.0 w.mail _ k.1); body = k.2 }
 
 pub evident_reach : (p : Plan) → 0 < p.replicas → (w : World) → Reach p w → (c : ℕ) → Evident p.replicas w (w.client c)

@@ -13,25 +13,25 @@ use Rattle.protocol.specs.World.State.{Plan, World, rules}
 use Rattle.protocol.proofs.TestLemmas.{and_right, some_not_none}
 use Rattle.protocol.proofs.ReplicaGrows.{decided_stays, promised_grows}
 use Rattle.protocol.proofs.ListsLemmas.{IsIn-right, IsIn-cases, at_cases}
-use Rattle.law_steps.proofs.Accepts.{vote_stands, vote_frozen, new_acceptance_is}
-use Rattle.law_steps.proofs.Spoken.{spoken}
-use Rattle.law_steps.proofs.Phases.{running_under_way}
+use Rattle.law_steps.proofs.AcceptorLemmas.{vote_stands, vote_frozen, new_acceptance_is}
+use Rattle.law_steps.proofs.SaysLemmas.{spoken}
+use Rattle.law_steps.proofs.PhaseLemmas.{running_under_way}
 use Rattle.law_steps.specs.Executions.{IsEarlier, Over}
-use Rattle.law_steps.proofs.Reach.{Step, Reach, ClientActs, WardenActs, GotAt}
+use Rattle.law_steps.proofs.Reach.{Step, Reach, ByClientAct, ByWardenAct, GotAt}
 use Rattle.law_steps.proofs.Reach.Step.{Stands, Client_acts, Replica_acts, Warden_acts}
 use Rattle.law_steps.proofs.Reach.From.{Next}
-use Rattle.law_steps.proofs.Provenance.{from_to_all, from_parcels, parcel_body}
-use Rattle.law_steps.proofs.Facts.{RFact, facts_reach, well_reach, taking_reach}
-use Rattle.law_steps.proofs.Votes.{new_vote, verdict_commit, earlier_settled}
-use Rattle.law_safety.proofs.WardEvidence.{decided_sent}
-use Rattle.law_steps.proofs.Mail.{took_reach}
+use Rattle.law_steps.proofs.Induction.{from_to_all, from_parcels, parcel_body}
+use Rattle.law_steps.proofs.ReplicaFacts.{RFact, facts_reach, well_reach, taking_reach}
+use Rattle.law_steps.proofs.VotesLemmas.{new_vote, verdict_commit, earlier_settled}
+use Rattle.law_safety.proofs.WardenEvidence.{decided_sent}
+use Rattle.law_steps.proofs.MailLemmas.{took_reach}
 use Rattle.protocol.specs.World.Decided.{UpTo, WasSent}
-use Rattle.law_steps.proofs.Dropped.{up_to_trans, later_left, true_false, takes_above, cast_above_none}
-use Rattle.law_safety.proofs.Bases.{Bases, dropped_conflict}
+use Rattle.law_steps.proofs.TakenLemmas.{up_to_trans, later_left, true_false, takes_above, cast_above_none}
+use Rattle.law_safety.proofs.BaseEntries.{Bases, dropped_conflict}
 use Rattle.law_steps.proofs.ClientFacts.{act_over, rec_reach, said_stays}
-use Rattle.law_steps.proofs.WardFacts.{WFact, ward_facts_reach}
-use Rattle.law_safety.proofs.One.{open_under, sent_prepare, sent_finalize, one_reach, running_between, open_between, earlier_itself, warden_view}
-use Rattle.law_safety.proofs.Locks.{sent_grows, Closed, replica_grows, voted_grows, accepted_grows, quorum_map, cast_prepare}
+use Rattle.law_steps.proofs.WardenFacts.{WFact, ward_facts_reach}
+use Rattle.law_safety.proofs.OneProposal.{open_under, sent_prepare, sent_finalize, one_reach, running_between, open_between, earlier_itself, warden_view}
+use Rattle.law_safety.proofs.LocksLemmas.{sent_grows, Closed, replica_grows, voted_grows, accepted_grows, quorum_map, cast_prepare}
 use Rattle.law_safety.specs.Locks.{Shut, AbandonLock, CommitLock}
 use Rattle.law_safety.specs.Locks.Shut.{Voted_other, Has_promised, Has_decided, Fenced_out, Unsent, Conflicting}
 use Rattle.law_safety.specs.Locks.AbandonLock.{Accepted_abandon, All_shut}
@@ -41,8 +41,8 @@ use Rattle.law_safety.specs.Locks.CommitLock.{Accepted_commit, Fast}
 pub data Origin (p : Plan) (w w' : World) (b : Body) : Type 0 where
   Old : WasSent w b → Origin p w w' b
   Of_replica : (r : ℕ) → RFact r (w'.replica r) b → Origin p w w' b
-  Of_client : (s : ClientActs p w w') → IsIn b s.sent → Origin p w w' b
-  Of_warden : (s : WardenActs p w w') (a : Parcel) → IsIn a s.sent → b ≡ parcel_body a → WFact p.wardens s.k (w'.warden s.k) b → Origin p w w' b
+  Of_client : (s : ByClientAct p w w') → IsIn b s.sent → Origin p w w' b
+  Of_warden : (s : ByWardenAct p w w') (a : Parcel) → IsIn a s.sent → b ≡ parcel_body a → WFact p.wardens s.k (w'.warden s.k) b → Origin p w w' b
 
 pub origin : (p : Plan) (w w' : World) → Reach p w → Step p w w' → (b : Body) → WasSent w' b → Origin p w w' b
 origin p w w' q (Stands s) b t = Old (record { envelope = t.envelope; there = rw s.mail at t.there; body = t.body })

@@ -9,7 +9,7 @@ use Rattle.protocol.specs.Client.State.{Phase, CountedVote}
 use Rattle.protocol.specs.Client.State.Phase.{Between, Running, Prepared}
 use Rattle.protocol.specs.Client.Step.{is_warden}
 use Rattle.protocol.specs.Client.Attempts.{is_aborted, is_between, question}
-use Rattle.law_steps.proofs.Acts.{IsQuiet, AllQuiet, IsRunning, IsUnprepared, IsUnderWay, SameStage, IsAborted}
+use Rattle.law_steps.proofs.ClientActs.{IsQuiet, AllQuiet, IsRunning, IsUnprepared, IsUnderWay, SameStage, IsAborted}
 
 pub running_under_way : (p : Phase) → IsRunning p → IsUnderWay p
 running_under_way Between h = absurd h

@@ -9,7 +9,7 @@ use Rattle.protocol.specs.Client.Following.{with_answer, answer_at, no_answer}
 use Rattle.protocol.specs.Client.Attempts.{question}
 use Rattle.protocol.proofs.ListsLemmas.{IsIn-cases, IsIn-one_when}
 use Rattle.law_steps.specs.Executions.{IsEarlier}
-use Rattle.law_steps.proofs.Acts.{IsRunning, Continues, WriteStep}
+use Rattle.law_steps.proofs.ClientActs.{IsRunning, Continues, WriteStep}
 
 -- the body neither puts nor prepares
 abbrev pub IsOther : Body → Type 0

@@ -10,10 +10,10 @@ use Rattle.law_safety.specs.Bases.{BaseIsOne}
 use Rattle.protocol.proofs.NamesLemmas.{key_trans, key_irreflexive, wid_equal, exec_of}
 use Rattle.law_steps.proofs.Reach.{Reach, events_reach}
 use Rattle.law_steps.proofs.Reach.From.{Begins}
-use Rattle.law_safety.proofs.Rising.{IsStrict, same_members}
-use Rattle.law_safety.proofs.Cuts.{one_content}
-use Rattle.law_safety.proofs.Agreed.{safe_reach}
-use Rattle.law_safety.proofs.Bases.{rising_one, entry_wid}
+use Rattle.law_safety.proofs.RisingLemmas.{IsStrict, same_members}
+use Rattle.law_safety.proofs.TruncationSettles.{one_content}
+use Rattle.law_safety.proofs.InvariantHolds.{safe_reach}
+use Rattle.law_safety.proofs.BaseEntries.{rising_one, entry_wid}
 
 -- no key is before itself, nor two before each other
 keys_strict : IsStrict (λ (d e : BaseEntry). key_before d.key e.key)
