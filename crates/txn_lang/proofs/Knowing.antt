@@ -10,6 +10,7 @@ use Rattle.txn_lang.specs.Actions.{program_actions}
 use Rattle.txn_lang.specs.Runs.{Run, replay}
 use Rattle.txn_lang.specs.declared.tree.Block.{Block}
 use Rattle.txn_lang.specs.Laws.{or_else, KnowsItsOwn}
+use Rattle.txn_lang.proofs.Entries.{found-append}
 use Rattle.txn_lang.proofs.Induction.{outside, IsKept, holds}
 
 abbrev Next : Type 0
@@ -18,15 +19,6 @@ Next = ℤ → List Entry → List ℤ → Run
 found_nothing : (o : Option ℤ) → o ≡ or_else None (or_else o None)
 found_nothing None = refl
 found_nothing (Some x) = refl
-
-first_or : (b : Bool) (x : ℤ) (o rest : Option ℤ) → or_else (first_of b x o) rest ≡ first_of b x (or_else o rest)
-first_or true x o rest = refl
-first_or false x o rest = refl
-
-found-append : (xs ys : List Entry) (k : Key) → found (xs ++ ys) k ≡ or_else (found xs k) (found ys k)
-found-append [] ys k = refl
-found-append (x ∷ xs) ys k =
-    ap (first_of (same_key x.key k) x.value) (found-append xs ys k) ∙ sym (first_or (same_key x.key k) x.value (found xs k) (found ys k))
 
 or_else_assoc : (a b c : Option ℤ) → or_else (or_else a b) c ≡ or_else a (or_else b c)
 or_else_assoc None b c = refl

@@ -2,6 +2,7 @@ pub mod Induction
 pub mod Taking
 pub mod Growing
 pub mod Asking
+pub mod Entries
 pub mod Knowing
 pub mod SerialRuns
 pub mod Resuming

@@ -2,7 +2,7 @@ use Rattle.std.proofs.Common.{[], ◌∷◌, ◌++◌, Some, ap, sym, ◌∙◌,
 use Rattle.std.proofs.lemmas.Int.{to_z-of_z}
 use Rattle.morty_base.specs.Names.{same_key}
 use Rattle.txn_lang.specs.Keys.{entry}
-use Rattle.serial_ref.proofs.Maps.{found_there, found_before}
+use Rattle.txn_lang.proofs.Entries.{found_newest, found_older}
 use Rattle.serial_ref.proofs.entries.+last_value.Goals as goal
 
 pub returns-then-eq : goal.returns-then-eq
@@ -11,7 +11,7 @@ returns-then-eq t c =
     let last = entry c.last.inside.key c.last.inside.value in
     let split = c.in-Some.ensures.cases.0 ∙ ap (λ e. c.in-Some.front.now ++ e ∷ []) (sym c.last.view_is) in
     ap Some (to_z-of_z w64 last.value c.last.invariant)
-    ∙ found_there c.in-Some.front.now c.args.entries.now last c.args.key split (sym c.eq.ensures ∙ c.if-eq.true)
+    ∙ found_newest c.args.entries.now c.in-Some.front.now last c.args.key split (sym c.eq.ensures ∙ c.if-eq.true)
 
 pub returns-else-eq : goal.returns-else-eq
 unfolding same_key
@@ -19,4 +19,4 @@ returns-else-eq t c =
     let last = entry c.last.inside.key c.last.inside.value in
     let split = c.in-Some.ensures.cases.0 ∙ ap (λ e. c.in-Some.front.now ++ e ∷ []) (sym c.last.view_is) in
     c.last_value.ensures
-    ∙ found_before c.in-Some.front.now c.args.entries.now last c.args.key split (sym c.eq.ensures ∙ c.if-eq.false)
+    ∙ found_older c.args.entries.now c.in-Some.front.now last c.args.key split (sym c.eq.ensures ∙ c.if-eq.false)
