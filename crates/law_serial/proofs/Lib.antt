@@ -7,4 +7,4 @@ pub mod Fronts
 pub mod Current
 pub mod Lookups
 pub mod Serial
-pub mod Truncated
+pub mod SerialBase

@@ -12,7 +12,7 @@
 ghost use Rattle.law_serial.specs.Fronts.{PutsAreFronts};
 ghost use Rattle.law_serial.specs.Reads.{SureNotes, NothingBetween};
 ghost use Rattle.law_serial.specs.Programs.{ReadsNoted, ReadsSure, ReadsCurrent};
-ghost use Rattle.law_serial.specs.Serial.{SerialReads, SerialBase};
+ghost use Rattle.law_serial.specs.Serial.{SerialReads, SerialBase, DropsAreSerial};
 
 /// What a Note calls sure is a first value, or the last write of its key in a committed execution, below the reader.
 pub fn sure_notes()
@@ -50,7 +50,12 @@ pub fn serial_reads()
     ensures { SerialReads }
 {}
 
-/// The base of a world at a version has the values of the map that the serial run up to that version leaves.
+/// The base of a world at a version is the map that the serial run up to that version leaves, on the keys with a kept write.
 pub fn serial_base()
     ensures { SerialBase }
+{}
+
+/// Each Drop that was sent carries the base of the world at its version, then and ever after, and it is the serial map there.
+pub fn drops_are_serial()
+    ensures { DropsAreSerial }
 {}

@@ -1,13 +1,17 @@
--- What it means that committed executions are the serial run of their programs.
-use Rattle.std.specs.Prelude.{filter, not, ◌≡◌, ℕ, ◌-◌, List, [], ◌∷◌, map, Option, Some, None}
-use Rattle.std.specs.List.{slice_get}
-use Rattle.protocol.specs.Words.{Version, before, Read, Write}
-use Rattle.txn_lang.specs.Keys.{Entry, entry, after_writes}
+-- What it means that committed executions are the serial run of their programs, and that a base is its map.
+use Rattle.std.specs.Prelude.{filter, not, ◌≡◌, ℕ, ◌-◌, Bool, List, [], ◌∷◌, map, Option, Some, None}
+use Rattle.std.specs.List.{list_any, slice_get}
+use Rattle.protocol.specs.Words.{Version, Key, before, same_key, BaseEntry, Read, Write}
+use Rattle.protocol.specs.Lists.{IsIn}
+use Rattle.protocol.specs.Replica.Votes.{writes_key}
+use Rattle.protocol.specs.World.State.{World}
+use Rattle.protocol.specs.World.Decided.{IsRising}
+use Rattle.txn_lang.specs.Keys.{Entry, entry, held, after_writes}
 use Rattle.txn_lang.specs.Runs.{Run, kept}
 use Rattle.txn_lang.specs.Program.{Program, serial, last_map}
 use Rattle.protocol.specs.declared.First2.{First2}
-use Rattle.protocol.specs.World.Committed.{CommittedExec}
-use Rattle.protocol_plans.specs.Scripted.{Start, Scripted}
+use Rattle.protocol.specs.World.Committed.{CommittedExec, committed_executions, base_at}
+use Rattle.protocol_plans.specs.Scripted.{Start, Scripted, plan_of}
 
 -- first values as a map
 abbrev pub first_map : List First2 → List Entry
@@ -62,3 +66,22 @@ pub record IsSerial (s : Scripted) (cs : List CommittedExec) : Type 0 where
 -- the executions at or below a version
 abbrev pub upto_version : Version → List CommittedExec → List CommittedExec
 upto_version v cs = filter (λ c. not (before v c.exec.ver)) cs
+
+-- some entry is of the key
+abbrev pub has_entry : Key → List BaseEntry → Bool
+has_entry k bs = list_any (λ e. same_key k e.key) bs
+
+-- one of the executions kept a write of the key
+abbrev pub has_kept_write : Key → List CommittedExec → Bool
+has_kept_write k cs = list_any (λ c. writes_key k c.content.writes) cs
+
+-- the base, rising by key, is the map that the serial run of these executions leaves, on the keys of which they kept a write
+pub record IsSerialBase (s : Scripted) (cs : List CommittedExec) (bs : List BaseEntry) : Type 0 where
+  pub rising : IsRising bs
+  pub keys : (k : Key) → has_entry k bs ≡ has_kept_write k cs
+  pub values : (e : BaseEntry) → IsIn e bs → e.value ≡ held (last_map (first_map s.firsts) (programs_of s cs)) e.key
+
+-- the base is that of the world at a version, and the map there of the serial run of what is committed at or below it
+pub record IsBaseAt (s : Scripted) (w : World) (v : Version) (bs : List BaseEntry) : Type 0 where
+  pub base : bs ≡ base_at (plan_of s) w v
+  pub serial : IsSerialBase s (upto_version v (committed_executions (plan_of s) w)) bs

@@ -4,8 +4,8 @@ ghost use Rattle.net_core.specs.Marks.{end_of};
 ghost use Rattle.net_core.specs.Rounds.{InRounds};
 ghost use Rattle.net_core.specs.Fair.{AllFair};
 ghost use Rattle.world.specs.Machine.{machine_of};
-ghost use Rattle.law_outcomes.specs.Outcome.{IsSafeThroughout, IsSerialOutcome};
-ghost use Rattle.first_form.specs.Script.{scripted, plan, turns, world_of};
+ghost use Rattle.law_outcomes.specs.Outcome.{IsCorrectThroughout};
+ghost use Rattle.first_form.specs.Script.{scripted, plan, turns};
 ghost use Rattle.script_cli.specs.TopCall.{run_words, bad_command_line, read_failed as read_failed_line, IsAnswered, IsReported, IsRefused, IsScript, OfScript, IsCut, IsStatus};
 ghost use Rattle.morty_io.specs.Faults.{Rose};
 ghost use Rattle.morty_io.specs.Bytes.{Takes};
@@ -156,10 +156,10 @@ pub fn run_here<S: Source, K: Sink>(
     ensures fair_picks { result.status ≡ 0 →
         OfScript (S.left src.old) (λ script. AllFair (machine_of (plan script)) (reverse result.journal.items)) }
 
-    // Whatever the status: at each moment of the journal no execution is decided two ways by two nodes and at most one
-    // execution of a transaction is committed, and what it leaves committed is the serial run of its programs.
-    ensures safe { OfScript (S.left src.old) (λ script. IsSafeThroughout (plan script) result.journal.items) }
-    ensures serial { OfScript (S.left src.old) (λ script. IsSerialOutcome (scripted script) (world_of script result.journal.items)) }
+    // Whatever the status, at each moment of the journal: no execution is decided two ways by two nodes, at most one
+    // execution of a transaction is committed, what is committed is the serial run of its programs, and each Drop that was
+    // sent carries the base of the world at its version.
+    ensures correct { OfScript (S.left src.old) (λ script. IsCorrectThroughout (scripted script) result.journal.items) }
 
     // 2: exactly where the words are not the one word `run`, unless the sink fails.
     ensures bad_words { result.status ≡ 2 → (words.now ≢ run_words) × Takes (K.taken out.old) (K.taken out.new) bad_command_line }

@@ -1,4 +1,4 @@
-use Rattle.law_serial.proofs.Truncated as proved
+use Rattle.law_serial.proofs.SerialBase as proved
 use Rattle.law_serial.proofs.serial_base.Goals as goal
 
 pub returns : goal.returns

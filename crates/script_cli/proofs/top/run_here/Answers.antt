@@ -5,9 +5,9 @@ use Rattle.net_core.specs.Fair.{AllFair}
 use Rattle.net_core.specs.Marks.{end_of}
 use Rattle.net_core.specs.Rounds.{InRounds}
 use Rattle.world.specs.Machine.{machine_of}
-use Rattle.law_outcomes.specs.Outcome.{IsSafeThroughout, IsSerialOutcome}
-use Rattle.law_outcomes.proofs.Outcomes.{outcomes_are_safe, outcomes_are_serial}
-use Rattle.first_form.specs.Script.{scripted, plan, turns, world_of}
+use Rattle.law_outcomes.specs.Outcome.{IsCorrectThroughout}
+use Rattle.law_outcomes.proofs.Outcomes.{outcomes_are_correct}
+use Rattle.first_form.specs.Script.{scripted, plan, turns}
 use Rattle.script_cli.specs.TopCall.{IsQuietRun}
 use Rattle.script_cli.proofs.Answered.{completes_told}
 use Rattle.script_cli.proofs.Ran.{of_all, of_script, quiet_run}
@@ -34,15 +34,10 @@ returns-clause-fair_picks g c zero =
     of_script left (λ script. IsQuietRun script journal) (λ script. AllFair (machine_of (plan script)) (reverse journal))
     (quiet_run c.args.words.now left _ _ _ _ _ journal c.answer.ensures.answered zero) (λ script run. run.fair)
 
-pub returns-clause-safe : goal.returns-clause-safe
-returns-clause-safe g c =
+pub returns-clause-correct : goal.returns-clause-correct
+returns-clause-correct g c =
     let journal = c.answer.result.journal.items in
-    of_all (g.S.Source.left c.args.src.now) (λ script. IsSafeThroughout (plan script) journal) (λ script. outcomes_are_safe (plan script) (lit< tt) journal)
-
-pub returns-clause-serial : goal.returns-clause-serial
-returns-clause-serial g c =
-    let journal = c.answer.result.journal.items in
-    of_all (g.S.Source.left c.args.src.now) (λ script. IsSerialOutcome (scripted script) (world_of script journal)) (λ script. outcomes_are_serial (scripted script) (lit< tt) journal)
+    of_all (g.S.Source.left c.args.src.now) (λ script. IsCorrectThroughout (scripted script) journal) (λ script. outcomes_are_correct (scripted script) (lit< tt) journal)
 
 pub returns-clause-complete : goal.returns-clause-complete
 returns-clause-complete g c = completes_told c.args.words.now (g.S.Source.left c.args.src.now) _ _ _ _ _ _ c.answer.ensures.answered

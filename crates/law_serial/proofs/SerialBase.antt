@@ -1,7 +1,7 @@
--- The base of a world is the serial map at its version.
+-- The base of a world is the serial map at its version, and so is that of each Drop.
 use Rattle.std.proofs.Common.{◌≡◌, ◌<◌, inl, inr, refl, ap, sym, ◌∙◌, subst, true, false, Bool, cond, List, [], ◌∷◌, ◌++◌, append_assoc, Option, Some}
 use Rattle.std.specs.Prelude.{not, ◌||◌, ◌&&◌, nat_lt, ℤ, pos, unwrap_or}
-use Rattle.protocol.specs.Words.{Exec, Version, Wid, BaseEntry, Content, Event, Write, Prepare, before, same_key, same_version, exec_before, wid_before}
+use Rattle.protocol.specs.Words.{Exec, Version, Wid, Key, BaseEntry, Content, Event, Write, Prepare, before, same_key, same_version, exec_before, wid_before}
 use Rattle.morty_base.proofs.Orders.{before_total}
 use Rattle.txn_lang.specs.Keys.{Entry, found}
 use Rattle.txn_lang.specs.Program.{last_map}
@@ -17,16 +17,16 @@ use Rattle.protocol.proofs.TestLemmas.{and_left}
 use Rattle.protocol.proofs.NamesLemmas.{key_is, version_is}
 use Rattle.protocol.proofs.ListsLemmas.{IsIn-left, IsIn-right}
 use Rattle.law_steps.proofs.TakenLemmas.{true_false, IsIn-filter, IsIn-filtered}
-use Rattle.law_steps.proofs.VotesLemmas.{any_true}
+use Rattle.law_steps.proofs.VotesLemmas.{any_true, any_in}
 use Rattle.law_steps.proofs.Reach.{events_reach}
 use Rattle.law_steps.proofs.Reach.From.{Begins}
 use Rattle.law_safety.specs.Outcome.{IsRisingByExec}
-use Rattle.law_safety.proofs.BaseEntries.{entry_wid, write_entry, rising_one}
+use Rattle.law_safety.proofs.BaseEntries.{entry_wid, entry_write, write_entry, rising_one}
 use Rattle.law_safety.proofs.TruncationSettles.{one_content}
 use Rattle.law_safety.proofs.InvariantHolds.{safe_reach}
-use Rattle.law_safety.proofs.CommittedList.{base_at_is}
-use Rattle.protocol_plans.specs.SerialOutcome.{first_map, programs_of, map_of, upto_version}
-use Rattle.law_serial.specs.Serial.{SerialBase}
+use Rattle.law_safety.proofs.CommittedList.{base_at_is, base_of_drop}
+use Rattle.protocol_plans.specs.SerialOutcome.{first_map, programs_of, map_of, upto_version, has_entry, has_kept_write, IsSerialBase}
+use Rattle.law_serial.specs.Serial.{SerialBase, DropsAreSerial}
 use Rattle.law_serial.proofs.Lookups.{latest_found, split_at, rising_after}
 use Rattle.law_serial.proofs.Serial.{listed, version_before, runs_from}
 
@@ -64,6 +64,15 @@ not_true : (t : Bool) → not t ≡ true → t ≡ false
 not_true true e = cc
 not_true false e = refl
 
+key_moved : (k a b : Key) → a ≡ b → same_key k a ≡ true → same_key k b ≡ true
+key_moved k a b e h = ap (same_key k) (sym e) ∙ h
+
+-- two tests are one where each holds with the other
+same_test : (a b : Bool) → (a ≡ true → b ≡ true) → (b ≡ true → a ≡ true) → a ≡ b
+same_test true b f g = sym (f refl)
+same_test false true f g = absurd (true_false (sym (g refl)))
+same_test false false f g = refl
+
 module _ (s : Scripted) (positive : 0 < s.replicas) (events : List Event) (v : Version) where
   abbrev TheWorld : World
   TheWorld = replay_from (plan_of s) first_world events
@@ -91,24 +100,18 @@ module _ (s : Scripted) (positive : 0 < s.replicas) (events : List Event) (v : V
       let same : g.0 ≡ e = rising_one (base_at (plan_of s) TheWorld v) base.rising g.0 e g.1 i (g.2 ∙ f) in
       subst (λ (y : BaseEntry). wid_before y.wid x.wid ≡ false) same g.3
 
-  entry_held : (e : BaseEntry) → IsIn e (base_at (plan_of s) TheWorld v) → found (map_of (first_map s.firsts) (upto_version v Executions)) e.key ≡ Some e.value
-  entry_held e i = ap (λ (l : List CommittedExec). found (map_of (first_map s.firsts) l) e.key) k.2
-      ∙ latest_found k.0 k.1 d.0 (first_map s.firsts) e.key e.wid e.value mine (λ x h f. greatest e i x (written d.0 there x h) f) none
+  -- the listed execution up to the version whose write an entry of the base is
+  listed_as : (e : BaseEntry) → IsWrite TheWorld v e → (d : CommittedExec) × IsIn d (upto_version v Executions) × IsIn e (entries_of d.exec 1 d.content.writes)
+  listed_as e y = (d.0, there, mine)
     where
-      y : IsWrite TheWorld v e
-      y = base.only e i
-
-      d : (c : CommittedExec) × IsIn c Executions × (c.exec ≡ (base.only e i).exec)
-      d = (listed s positive events).all (base.only e i).exec (base.only e i).committed
+      d : (c : CommittedExec) × IsIn c Executions × (c.exec ≡ y.exec)
+      d = (listed s positive events).all y.exec y.committed
 
       low : before v d.0.exec.ver ≡ false
       low = subst (λ (x : Exec). before v x.ver ≡ false) (sym d.2) y.upto
 
       there : IsIn d.0 (upto_version v Executions)
       there = IsIn-filter (λ (c : CommittedExec). not (before v c.exec.ver)) Executions d.0 d.1 (ap not low)
-
-      k : (ys : List CommittedExec) × (zs : List CommittedExec) × (upto_version v Executions ≡ ys ++ d.0 ∷ zs)
-      k = split_at d.0 (upto_version v Executions) there
 
       same : y.content ≡ d.0.content
       same = one_content (plan_of s) positive TheWorld (events_reach (plan_of s) first_world first_world Begins events) (safe_reach (plan_of s) positive TheWorld (events_reach (plan_of s) first_world first_world Begins events)) y.exec y.content d.0.content y.prepared
@@ -117,8 +120,18 @@ module _ (s : Scripted) (positive : 0 < s.replicas) (events : List Event) (v : V
       mine : IsIn e (entries_of d.0.exec 1 d.0.content.writes)
       mine = subst (λ (x : Exec). IsIn e (entries_of x 1 d.0.content.writes)) (sym d.2) (subst (λ (c : Content). IsIn e (entries_of y.exec 1 c.writes)) same y.entry)
 
+  entry_held : (e : BaseEntry) → IsIn e (base_at (plan_of s) TheWorld v) → found (map_of (first_map s.firsts) (upto_version v Executions)) e.key ≡ Some e.value
+  entry_held e i = ap (λ (l : List CommittedExec). found (map_of (first_map s.firsts) l) e.key) k.2
+      ∙ latest_found k.0 k.1 d.0 (first_map s.firsts) e.key e.wid e.value d.2 (λ x h f. greatest e i x (written d.0 d.1 x h) f) none
+    where
+      d : (c : CommittedExec) × IsIn c (upto_version v Executions) × IsIn e (entries_of c.exec 1 c.content.writes)
+      d = listed_as e (base.only e i)
+
+      k : (ys : List CommittedExec) × (zs : List CommittedExec) × (upto_version v Executions ≡ ys ++ d.0 ∷ zs)
+      k = split_at d.0 (upto_version v Executions) d.1
+
       ver : e.wid.ver ≡ d.0.exec.ver
-      ver = (entry_wid d.0.exec 1 d.0.content.writes e mine).0
+      ver = (entry_wid d.0.exec 1 d.0.content.writes e d.2).0
 
       rise : IsRisingByExec (k.0 ++ d.0 ∷ (k.1 ++ front.0))
       rise = subst (λ (l : List CommittedExec). IsRisingByExec l) (front.1 ∙ ap (λ (l : List CommittedExec). l ++ front.0) k.2 ∙ append_assoc k.0 (d.0 ∷ k.1) front.0) (listed s positive events).rising
@@ -135,7 +148,7 @@ module _ (s : Scripted) (positive : 0 < s.replicas) (events : List Event) (v : V
               let t = any_true (λ (u : Write). same_key e.key u.key) x.content.writes q in
               let f = write_entry x.exec 1 x.content.writes t.0 t.1 in
               let listed_x = (IsIn-filtered (λ (c : CommittedExec). not (before v c.exec.ver)) Executions x inside).0 in
-              let up = version_before s positive events d.0 x ((listed s positive events).only d.0 d.1) ((listed s positive events).only x listed_x)
+              let up = version_before s positive events d.0 x ((listed s positive events).only d.0 (IsIn-filtered (λ (c : CommittedExec). not (before v c.exec.ver)) Executions d.0 d.1).0) ((listed s positive events).only x listed_x)
               (rising_after (λ (a b : CommittedExec). exec_before a.exec b.exec) k.0 (k.1 ++ front.0) d.0 x rise (IsIn-left x k.1 front.0 h)) in
               let w = greatest e i f.0 (written x inside f.0 f.1) (f.2 ∙ sym (key_is e.key t.0.key t.2)) in
               absurd (true_false (sym (later_wid e.wid f.0.wid (subst (λ (a : Version). before a f.0.wid.ver ≡ true) (sym ver) (subst (λ (b : Version). before d.0.exec.ver b ≡ true) (sym (entry_wid x.exec 1 x.content.writes f.0 f.1).0) up))) ∙ w))
@@ -143,5 +156,38 @@ module _ (s : Scripted) (positive : 0 < s.replicas) (events : List Event) (v : V
   map_is : map_of (first_map s.firsts) (upto_version v Executions) ≡ last_map (first_map s.firsts) (programs_of s (upto_version v Executions))
   map_is = (runs_from s positive events [] (upto_version v Executions) front.0 (sym front.1)).1
 
+  -- a key has an entry just where an execution up to the version kept a write of it
+  entry_kept : (k : Key) → has_entry k (base_at (plan_of s) TheWorld v) ≡ true → has_kept_write k (upto_version v Executions) ≡ true
+  entry_kept k h =
+      let e = any_true (λ (x : BaseEntry). same_key k x.key) (base_at (plan_of s) TheWorld v) h in
+      let y = base.only e.0 e.1 in
+      let d = listed_as e.0 y in
+      let u = entry_write d.0.exec 1 d.0.content.writes e.0 d.2 in
+      any_in (λ (c : CommittedExec). writes_key k c.content.writes) (upto_version v Executions) d.0 d.1
+      (any_in (λ (z : Write). same_key k z.key) d.0.content.writes u.1.0 u.1.1 (key_moved k e.0.key u.1.0.key u.1.2 e.2))
+
+  kept_entry : (k : Key) → has_kept_write k (upto_version v Executions) ≡ true → has_entry k (base_at (plan_of s) TheWorld v) ≡ true
+  kept_entry k h =
+      let d = any_true (λ (c : CommittedExec). writes_key k c.content.writes) (upto_version v Executions) h in
+      let u = any_true (λ (z : Write). same_key k z.key) d.0.content.writes d.2 in
+      let x = write_entry d.0.exec 1 d.0.content.writes u.0 u.1 in
+      let e = base.greatest x.0 (written d.0 d.1 x.0 x.1) in
+      any_in (λ (y : BaseEntry). same_key k y.key) (base_at (plan_of s) TheWorld v) e.0 e.1 (key_moved k x.0.key e.0.key (sym e.2) (key_moved k u.0.key x.0.key (sym x.2) u.2))
+
+  keys_same : (k : Key) → has_entry k (base_at (plan_of s) TheWorld v) ≡ has_kept_write k (upto_version v Executions)
+  keys_same k = same_test (has_entry k (base_at (plan_of s) TheWorld v)) (has_kept_write k (upto_version v Executions)) (entry_kept k) (kept_entry k)
+
 pub serial_base : SerialBase
-serial_base s positive events v e i = ap (λ (o : Option ℤ). unwrap_or o (pos 0)) (ap (λ (m : List Entry). found m e.key) (sym (map_is s positive events v)) ∙ entry_held s positive events v e i)
+serial_base s positive events v = record {
+  rising = (base s positive events v).rising;
+  keys = keys_same s positive events v;
+  values = λ e i. ap (λ (o : Option ℤ). unwrap_or o (pos 0)) (sym (ap (λ (m : List Entry). found m e.key) (sym (map_is s positive events v)) ∙ entry_held s positive events v e i));
+}
+
+pub drops_are_serial : DropsAreSerial
+drops_are_serial s positive events v bs sent =
+    let same = (base_of_drop (plan_of s) positive events [] v bs sent).0 in
+    record {
+      base = same;
+      serial = subst (λ (l : List BaseEntry). IsSerialBase s (upto_version v (committed_executions (plan_of s) (replay_from (plan_of s) first_world events))) l) (sym same) (serial_base s positive events v);
+    }

@@ -1,5 +1,0 @@
-use Rattle.law_outcomes.proofs.Outcomes as proved
-use Rattle.law_outcomes.proofs.outcomes_are_serial.Goals as goal
-
-pub returns : goal.returns
-returns c = proved.outcomes_are_serial

@@ -1,0 +1,5 @@
+use Rattle.law_serial.proofs.SerialBase as proved
+use Rattle.law_serial.proofs.drops_are_serial.Goals as goal
+
+pub returns : goal.returns
+returns c = proved.drops_are_serial
