@@ -1,3 +1,4 @@
+pub mod ScriptNames
 pub mod Names
 pub mod Orders
 pub mod formers

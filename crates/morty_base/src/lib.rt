@@ -5,6 +5,7 @@ mod comparisons;
 mod laws;
 mod list;
 mod names;
+mod script_names;
 mod steps;
 
 pub use comparisons::{
@@ -14,4 +15,5 @@ pub use comparisons::{
 pub use laws::{exec_order, key_order, node_order, version_order, wid_order};
 pub use list::{List, NoMemory};
 pub use names::{Ended, Ending, Exec, Key, NodeId, Version, Wid};
+pub use script_names::{LONGEST_NAME, is_digit, is_letter, is_name_byte, is_reserved};
 pub use steps::{Ledger, Steps};

@@ -1,4 +1,4 @@
-pub mod Maps
-pub mod Steps
-pub mod Repeats
-pub mod Samples
+pub mod MapLemmas
+pub mod SerialLemmas
+pub mod ExecutionLemmas
+pub mod RepeatLemmas

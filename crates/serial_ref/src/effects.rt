@@ -1,9 +1,11 @@
 ghost use Rattle.std.specs.Prelude.{◌≡◌, ◌+◌, ◌<◌, [], ◌∷◌, ◌++◌, OnOk, IsSome};
+ghost use Rattle.txn_lang.specs.declared.limits.TheConstants.{MOST_STEPS};
 ghost use Rattle.txn_lang.specs.Keys.{entry};
 ghost use Rattle.txn_lang.specs.Runs.{kept};
-ghost use Rattle.serial_ref.specs.Whole.{run_of_replay, run_of_serial};
+ghost use Rattle.serial_ref.specs.Execution.{run_of_replay, run_of_serial};
 
-use crate::entries::{Entry, Map};
+use crate::entry::Entry;
+use crate::known::Known;
 use morty_base::{Ending, Key, List, NoMemory};
 use std::alloc::Global;
 
@@ -15,7 +17,7 @@ pub struct Effects {
     pub writes: List<Entry>,
     pub out: List<i64>,
     pub begun: u32,
-    pub known: Map,
+    pub known: Known,
 }
 
 /// Where an execution stopped: it asks for a key, or it ended.
@@ -49,13 +51,13 @@ impl Effects {
             writes: List::new(alloc),
             out: List::new(alloc),
             begun: 0,
-            known: Map::new(alloc),
+            known: Known::new(alloc),
         }
     }
 
     /// A statement was begun.
     pub fn begin(&mut self)
-        requires { self.old.begun < 4096 }
+        requires { self.old.begun < MOST_STEPS }
         ensures { self.new ≡ record self.old { begun = self.old.begun + 1 } }
     {
         self.begun += 1;
@@ -65,16 +67,18 @@ impl Effects {
     pub fn read(&mut self, key: Key, value: i64) -> Result<(), NoMemory>
         ensures { OnOk result (self.new ≡ record self.old { reads = self.old.reads ++ entry key value ∷ []; known = entry key value ∷ self.old.known }) }
     {
-        self.reads.push(Entry { key, value })?;
-        self.known.insert(key, value)
+        let entry = Entry { key, value };
+        self.reads.push(entry)?;
+        self.known.add(entry)
     }
 
     /// A write was made.
     pub fn write(&mut self, key: Key, value: i64) -> Result<(), NoMemory>
         ensures { OnOk result (self.new ≡ record self.old { writes = self.old.writes ++ entry key value ∷ []; known = entry key value ∷ self.old.known }) }
     {
-        self.writes.push(Entry { key, value })?;
-        self.known.insert(key, value)
+        let entry = Entry { key, value };
+        self.writes.push(entry)?;
+        self.known.add(entry)
     }
 
     /// A line was printed.

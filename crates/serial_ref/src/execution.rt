@@ -1,8 +1,9 @@
 ghost use Rattle.std.specs.Prelude.{◌≡◌, ◌+◌, ◌<◌, ◌≤◌, length, IfOk, OnOk};
+ghost use Rattle.txn_lang.specs.declared.limits.TheConstants.{MOST_STEPS};
 ghost use Rattle.txn_lang.specs.Tree.{term, Let, Read, Write, Print};
 ghost use Rattle.txn_lang.specs.Value.{UsesBelow, value_of};
 ghost use Rattle.txn_lang.specs.Actions.{ending_of, actions};
-ghost use Rattle.serial_ref.specs.Whole.{IsStep, both, tested};
+ghost use Rattle.serial_ref.specs.Execution.{IsStep, both, tested};
 
 use crate::effects::{Effects, Stop};
 use crate::source::Source;
@@ -49,7 +50,7 @@ impl<S: Source> Execution<S> {
     pub fn set_local(&mut self, v: u16, e: &Expr) -> Option<Stop>
         requires local { v < length self.old.locals }
         requires fits { UsesBelow (term e.now) (length self.old.locals) }
-        requires few { self.old.did.begun < 4096 }
+        requires few { self.old.did.begun < MOST_STEPS }
         ensures step { IsStep S.answer self.old self.new (actions (Let v (term e.now))) result }
         ensures locals { length self.new.locals ≡ length self.old.locals }
         ensures begun { self.new.did.begun ≡ self.old.did.begun + 1 }
@@ -68,7 +69,7 @@ impl<S: Source> Execution<S> {
     pub fn read(&mut self, v: u16, table: u16, index: &Expr) -> Result<Option<Stop>, NoMemory>
         requires local { v < length self.old.locals }
         requires fits { UsesBelow (term index.now) (length self.old.locals) }
-        requires few { self.old.did.begun < 4096 }
+        requires few { self.old.did.begun < MOST_STEPS }
         ensures step { IfOk result (IsStep S.answer self.old self.new (actions (Read v table (term index.now)))) }
         ensures locals { OnOk result (length self.new.locals ≡ length self.old.locals) }
         ensures begun { OnOk result (self.new.did.begun ≡ self.old.did.begun + 1) }
@@ -97,7 +98,7 @@ impl<S: Source> Execution<S> {
     pub fn write(&mut self, table: u16, index: &Expr, e: &Expr) -> Result<Option<Stop>, NoMemory>
         requires index { UsesBelow (term index.now) (length self.old.locals) }
         requires value { UsesBelow (term e.now) (length self.old.locals) }
-        requires few { self.old.did.begun < 4096 }
+        requires few { self.old.did.begun < MOST_STEPS }
         ensures step { IfOk result (IsStep S.answer self.old self.new (actions (Write table (term index.now) (term e.now)))) }
         ensures locals { OnOk result (length self.new.locals ≡ length self.old.locals) }
         ensures begun { OnOk result (self.new.did.begun ≡ self.old.did.begun + 1) }
@@ -115,7 +116,7 @@ impl<S: Source> Execution<S> {
     /// Does a `print`.
     pub fn print(&mut self, e: &Expr) -> Result<Option<Stop>, NoMemory>
         requires fits { UsesBelow (term e.now) (length self.old.locals) }
-        requires few { self.old.did.begun < 4096 }
+        requires few { self.old.did.begun < MOST_STEPS }
         ensures step { IfOk result (IsStep S.answer self.old self.new (actions (Print (term e.now)))) }
         ensures locals { OnOk result (length self.new.locals ≡ length self.old.locals) }
         ensures begun { OnOk result (self.new.did.begun ≡ self.old.did.begun + 1) }
@@ -133,7 +134,7 @@ impl<S: Source> Execution<S> {
     /// Begins an `if`, and says whether its number is not 0.
     pub fn test(&mut self, e: &Expr) -> Result<bool, Stop>
         requires fits { UsesBelow (term e.now) (length self.old.locals) }
-        requires few { self.old.did.begun < 4096 }
+        requires few { self.old.did.begun < MOST_STEPS }
         ensures value { result ≡ tested (value_of e.now self.old.locals) }
         ensures begun { self.new ≡ record self.old { did = record self.old.did { begun = self.old.did.begun + 1 } } }
     {

@@ -1,10 +1,11 @@
-ghost use Rattle.std.specs.Prelude.{◌≡◌, OnOk, OnErr, IfOk, map};
+ghost use Rattle.std.specs.Prelude.{◌≡◌, IfOk, map};
+ghost use Rattle.txn_lang.specs.Keys.{HoldTheSame};
 ghost use Rattle.txn_lang.specs.Program.{replay_of, serial_of, map_after, serial, last_map};
-ghost use Rattle.serial_ref.specs.Whole.{run_of_replay, run_of_serial, run_of};
+ghost use Rattle.serial_ref.specs.Execution.{run_of_replay, run_of_serial, run_of};
 
 use crate::effects::{Effects, Replay, SerialRun, Stop};
-use crate::entries::Map;
 use crate::execution::Execution;
+use crate::map::Map;
 use crate::run::block;
 use crate::source::{Answers, Held, Source};
 use morty_base::{Ending, List, NoMemory};
@@ -34,35 +35,36 @@ pub fn run_on_answers(alloc: Global, prog: &Prog, answers: &[i64]) -> Result<Rep
     run(alloc, prog, Answers::new(answers))
 }
 
-/// The serial run of a program on a map, on which it makes the writes that it keeps.
-pub fn run_on_map(alloc: Global, prog: &Prog, cells: &mut Map) -> Result<SerialRun, NoMemory>
-    ensures run { IfOk result (λ r. run_of_serial r ≡ serial_of prog.now cells.old) }
-    ensures written { OnOk result (cells.new ≡ map_after cells.old prog.now) }
-    ensures unchanged { OnErr result (cells.new ≡ cells.old) }
+/// The serial run of a program on a map, and the map after the writes that it keeps.
+pub fn run_on_map(alloc: Global, prog: &Prog, cells: Map) -> Result<(SerialRun, Map), NoMemory>
+    ensures run { IfOk result (λ x. run_of_serial x.0 ≡ serial_of prog.now cells) }
+    ensures written { IfOk result (λ x. HoldTheSame x.1 (map_after cells prog.now)) }
 {
-    let replay = run(alloc, prog, Held::new(cells))?;
+    let replay = run(alloc, prog, Held::new(&cells))?;
     replay_is_serial();
     let run = replay.into_serial();
-    cells.insert_all(run.kept())?;
-    Ok(run)
+    let after = cells.with_writes(run.kept())?;
+    Ok((run, after))
 }
 
 /// What programs did one after another, and the map that they left.
-#[derive(Debug, Drop)]
+#[derive(Drop)]
 pub struct SerialRuns {
     pub runs: List<SerialRun>,
     pub cells: Map,
 }
 
 /// The serial runs of programs that stand in rising order of version: each runs on the map that those before it left.
-pub fn serial(alloc: Global, first: &Map, progs: &[&Prog]) -> Result<SerialRuns, NoMemory>
-    ensures runs { IfOk result (λ s. map run_of_serial s.runs ≡ serial first.now (map (λ p. p.now) progs.now)) }
-    ensures cells { IfOk result (λ s. s.cells ≡ last_map first.now (map (λ p. p.now) progs.now)) }
+pub fn serial(alloc: Global, first: Map, progs: &[&Prog]) -> Result<SerialRuns, NoMemory>
+    ensures runs { IfOk result (λ s. map run_of_serial s.runs ≡ serial first (map (λ p. p.now) progs.now)) }
+    ensures cells { IfOk result (λ s. HoldTheSame s.cells (last_map first (map (λ p. p.now) progs.now))) }
 {
-    let mut cells = first.copy(alloc)?;
+    let mut cells = first;
     let mut runs = List::new(alloc);
     for prog in progs {
-        runs.push(run_on_map(alloc, prog, &mut cells)?)?;
+        let (run, after) = run_on_map(alloc, prog, cells)?;
+        runs.push(run)?;
+        cells = after;
     }
     Ok(SerialRuns { runs, cells })
 }

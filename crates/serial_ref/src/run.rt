@@ -1,8 +1,9 @@
 ghost use Rattle.std.specs.Prelude.{◌≡◌, ◌+◌, ◌*◌, ◌<◌, ◌≤◌, length, IfOk, OnOk};
+ghost use Rattle.txn_lang.specs.declared.limits.TheConstants.{MOST_STEPS};
 ghost use Rattle.txn_lang.specs.Tree.{command, commands, Repeat};
 ghost use Rattle.txn_lang.specs.Actions.{actions, all_actions};
 ghost use Rattle.txn_lang.specs.Limits.{steps_in, steps, FitsIn, Fits};
-ghost use Rattle.serial_ref.specs.Whole.{IsStep};
+ghost use Rattle.serial_ref.specs.Execution.{IsStep};
 
 use crate::effects::Stop;
 use crate::execution::Execution;
@@ -18,7 +19,7 @@ fn repeat<S: Source>(
     body: &Block,
 ) -> Result<Option<Stop>, NoMemory>
     requires fits { Fits (length at.old.locals) (commands body.now) }
-    requires few { at.old.did.begun + steps_in (Repeat times (commands body.now)) ≤ 4096 }
+    requires few { at.old.did.begun + steps_in (Repeat times (commands body.now)) ≤ MOST_STEPS }
     ensures step { IfOk result (IsStep S.answer at.old at.new (actions (Repeat times (commands body.now)))) }
     ensures locals { OnOk result (length at.new.locals ≡ length at.old.locals) }
     ensures begun { OnOk result (at.new.did.begun ≤ at.old.did.begun + steps_in (Repeat times (commands body.now))) }
@@ -35,7 +36,7 @@ fn repeat<S: Source>(
 #[cycle(run)]
 fn statement<S: Source>(at: &mut Execution<S>, stmt: &Stmt) -> Result<Option<Stop>, NoMemory>
     requires fits { FitsIn (length at.old.locals) (command stmt.now) }
-    requires few { at.old.did.begun + steps_in (command stmt.now) ≤ 4096 }
+    requires few { at.old.did.begun + steps_in (command stmt.now) ≤ MOST_STEPS }
     ensures step { IfOk result (IsStep S.answer at.old at.new (actions (command stmt.now))) }
     ensures locals { OnOk result (length at.new.locals ≡ length at.old.locals) }
     ensures begun { OnOk result (at.new.did.begun ≤ at.old.did.begun + steps_in (command stmt.now)) }
@@ -62,7 +63,7 @@ fn statement<S: Source>(at: &mut Execution<S>, stmt: &Stmt) -> Result<Option<Sto
 #[cycle(run)]
 pub fn block<S: Source>(at: &mut Execution<S>, block: &Block) -> Result<Option<Stop>, NoMemory>
     requires fits { Fits (length at.old.locals) (commands block.now) }
-    requires few { at.old.did.begun + steps (commands block.now) ≤ 4096 }
+    requires few { at.old.did.begun + steps (commands block.now) ≤ MOST_STEPS }
     ensures step { IfOk result (IsStep S.answer at.old at.new (all_actions (commands block.now))) }
     ensures locals { OnOk result (length at.new.locals ≡ length at.old.locals) }
     ensures begun { OnOk result (at.new.did.begun ≤ at.old.did.begun + steps (commands block.now)) }

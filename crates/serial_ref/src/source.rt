@@ -3,7 +3,7 @@ ghost use Rattle.std.specs.Option.{option_map};
 ghost use Rattle.morty_base.specs.declared.names.Key.{Key as KeyValue};
 ghost use Rattle.txn_lang.specs.Runs.{next_answer, map_answer};
 
-use crate::entries::Map;
+use crate::map::Map;
 use morty_base::Key;
 use std::marker::Model;
 

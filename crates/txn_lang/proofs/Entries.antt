@@ -1,17 +1,17 @@
 -- What a list of entries shows of a key, where it is put together.
-use Rattle.std.proofs.Common.{◌≡◌, Bool, true, false, List, [], ◌∷◌, ◌++◌, reverse, Option, Some, None, refl, ap, sym, ◌∙◌, ℤ}
+use Rattle.std.proofs.Common.{◌≡◌, Bool, true, false, List, [], ◌∷◌, ◌++◌, reverse, Option, Some, refl, ap, sym, ◌∙◌, ℤ}
+use Rattle.std.specs.Option.{option_or}
 use Rattle.std.proofs.lemmas.List.{reverse-append}
 use Rattle.morty_base.specs.declared.names.Key.{Key}
 use Rattle.morty_base.specs.Names.{same_key}
 use Rattle.txn_lang.specs.Keys.{Entry, first_of, found}
-use Rattle.txn_lang.specs.Laws.{or_else}
 
-first_or : (b : Bool) (x : ℤ) (o rest : Option ℤ) → or_else (first_of b x o) rest ≡ first_of b x (or_else o rest)
+first_or : (b : Bool) (x : ℤ) (o rest : Option ℤ) → option_or (first_of b x o) rest ≡ first_of b x (option_or o rest)
 first_or true x o rest = refl
 first_or false x o rest = refl
 
 -- the entries in front show their keys, those behind them all others
-pub found-append : (xs ys : List Entry) (k : Key) → found (xs ++ ys) k ≡ or_else (found xs k) (found ys k)
+pub found-append : (xs ys : List Entry) (k : Key) → found (xs ++ ys) k ≡ option_or (found xs k) (found ys k)
 found-append [] ys k = refl
 found-append (x ∷ xs) ys k =
     ap (first_of (same_key x.key k) x.value) (found-append xs ys k) ∙ sym (first_or (same_key x.key k) x.value (found xs k) (found ys k))

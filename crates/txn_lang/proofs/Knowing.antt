@@ -1,5 +1,6 @@
 -- What a replay knows of a key: its last own write, else its answer.
-use Rattle.std.proofs.Common.{◌≡◌, ℕ, Bool, true, false, List, [], ◌∷◌, ◌++◌, reverse, Option, Some, None, refl, ap, sym, ◌∙◌, subst, ⊎_elim, ℤ}
+use Rattle.std.proofs.Common.{◌≡◌, ℕ, Bool, true, false, List, [], ◌∷◌, reverse, Option, Some, None, refl, ap, sym, ◌∙◌, subst, ⊎_elim, ℤ}
+use Rattle.std.specs.Option.{option_or}
 use Rattle.std.proofs.lemmas.List.{reverse-append}
 use Rattle.morty_base.specs.declared.names.Key.{Key}
 use Rattle.morty_base.specs.Names.{same_key}
@@ -9,41 +10,41 @@ use Rattle.txn_lang.specs.Keys.{Entry, entry, first_of, found}
 use Rattle.txn_lang.specs.Actions.{program_actions}
 use Rattle.txn_lang.specs.Runs.{Run, replay}
 use Rattle.txn_lang.specs.declared.tree.Block.{Block}
-use Rattle.txn_lang.specs.Laws.{or_else, KnowsItsOwn}
+use Rattle.txn_lang.specs.Laws.{KnowsItsOwn}
 use Rattle.txn_lang.proofs.Entries.{found-append}
 use Rattle.txn_lang.proofs.Induction.{outside, IsKept, holds}
 
 abbrev Next : Type 0
 Next = ℤ → List Entry → List ℤ → Run
 
-found_nothing : (o : Option ℤ) → o ≡ or_else None (or_else o None)
+found_nothing : (o : Option ℤ) → o ≡ option_or None (option_or o None)
 found_nothing None = refl
 found_nothing (Some x) = refl
 
-or_else_assoc : (a b c : Option ℤ) → or_else (or_else a b) c ≡ or_else a (or_else b c)
-or_else_assoc None b c = refl
-or_else_assoc (Some x) b c = refl
+option_or_assoc : (a b c : Option ℤ) → option_or (option_or a b) c ≡ option_or a (option_or b c)
+option_or_assoc None b c = refl
+option_or_assoc (Some x) b c = refl
 
-first_is_or : (b : Bool) (x : ℤ) (o : Option ℤ) → first_of b x o ≡ or_else (first_of b x None) o
+first_is_or : (b : Bool) (x : ℤ) (o : Option ℤ) → first_of b x o ≡ option_or (first_of b x None) o
 first_is_or true x o = refl
 first_is_or false x o = refl
 
 abbrev Knows : List Entry → (List ℤ → Run) → Type 0
-Knows known f = (answers : List ℤ) (k : Key) → found (f answers).known k ≡ or_else (found (reverse (f answers).writes) k) (or_else (found known k) (found (f answers).reads k))
+Knows known f = (answers : List ℤ) (k : Key) → found (f answers).known k ≡ option_or (found (reverse (f answers).writes) k) (option_or (found known k) (found (f answers).reads k))
 
-knows_write : (known : List Entry) (w : Entry) (ws reads : List Entry) (k : Key) → or_else (found (reverse ws) k) (or_else (found (w ∷ known) k) (found reads k)) ≡ or_else (found (reverse (w ∷ ws)) k) (or_else (found known k) (found reads k))
+knows_write : (known : List Entry) (w : Entry) (ws reads : List Entry) (k : Key) → option_or (found (reverse ws) k) (option_or (found (w ∷ known) k) (found reads k)) ≡ option_or (found (reverse (w ∷ ws)) k) (option_or (found known k) (found reads k))
 knows_write known w ws reads k =
     let last = found (reverse ws) k in
     let here = first_of (same_key w.key k) w.value None in
-    let rest = or_else (found known k) (found reads k) in
-    ap (or_else last) (ap (λ o. or_else o (found reads k)) (first_is_or (same_key w.key k) w.value (found known k)) ∙ or_else_assoc here (found known k) (found reads k))
-    ∙ sym (or_else_assoc last here rest)
-    ∙ ap (λ o. or_else o rest) (sym (found-append (reverse ws) (w ∷ []) k))
-    ∙ ap (λ l. or_else (found l k) rest) (sym (reverse-append (w ∷ []) ws))
+    let rest = option_or (found known k) (found reads k) in
+    ap (option_or last) (ap (λ o. option_or o (found reads k)) (first_is_or (same_key w.key k) w.value (found known k)) ∙ option_or_assoc here (found known k) (found reads k))
+    ∙ sym (option_or_assoc last here rest)
+    ∙ ap (λ o. option_or o rest) (sym (found-append (reverse ws) (w ∷ []) k))
+    ∙ ap (λ l. option_or (found l k) rest) (sym (reverse-append (w ∷ []) ws))
 
 -- an entry of a key that was not known stands for its first answer
-knows_answer : (b : Bool) (x : ℤ) (shown rest : Option ℤ) → (b ≡ true → shown ≡ None) → or_else (first_of b x shown) rest ≡ or_else shown (first_of b x rest)
-knows_answer true x shown rest h = sym (ap (λ o. or_else o (Some x)) (h refl))
+knows_answer : (b : Bool) (x : ℤ) (shown rest : Option ℤ) → (b ≡ true → shown ≡ None) → option_or (first_of b x shown) rest ≡ option_or shown (first_of b x rest)
+knows_answer true x shown rest h = sym (ap (λ o. option_or o (Some x)) (h refl))
 knows_answer false x shown rest h = refl
 
 true_is_not_false : {b : Bool} → b ≡ true → b ≡ false → ⊥
@@ -57,7 +58,7 @@ knows_read : (known : List Entry) (k : Key) (next : Next) → found known k ≡ 
 knows_read known k next e ih [] j = found_nothing (found known j)
 knows_read known k next e ih (x ∷ xs) j =
     let r = next x (entry k x ∷ known) xs in
-    ih x xs j ∙ ap (or_else (found (reverse r.writes) j)) (knows_answer (same_key k j) x (found known j) (found r.reads j) (unknown_too known k j e))
+    ih x xs j ∙ ap (option_or (found (reverse r.writes) j)) (knows_answer (same_key k j) x (found known j) (found r.reads j) (unknown_too known k j e))
 
 knows_kept : IsKept Knows
 knows_kept = record {

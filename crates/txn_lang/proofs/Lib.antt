@@ -1,10 +1,11 @@
+pub mod Trees
+pub mod Entries
 pub mod Induction
 pub mod Taking
 pub mod Growing
 pub mod Asking
-pub mod Entries
 pub mod Knowing
-pub mod SerialRuns
 pub mod Resuming
-pub mod Trees
+pub mod SerialRuns
+pub mod SameMaps
 pub mod Bounded

@@ -4,7 +4,7 @@ use Rattle.std.specs.Prelude.{◌≡◌, ℕ, ◌+◌, ◌<◌, ◌≤◌, max, 
 use Rattle.std.specs.List.{list_all, IsDistinct}
 use Rattle.std.specs.Int.{IsNonNegative}
 use Rattle.std.specs.Str.{bytes_eq}
-use Rattle.txn_lang.specs.Names.{is_name}
+use Rattle.morty_base.specs.ScriptNames.{is_name}
 use Rattle.txn_lang.specs.Tree.{Term, Num, Local, Neg, Not, Bin, Command, Let, Read, Write, Print, If, Repeat, Abort, Commands, End, Then}
 
 -- how many of n locals have a place as a target once v has one

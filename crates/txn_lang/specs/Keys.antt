@@ -1,5 +1,5 @@
 -- Keys with values: what a run reads and writes, and a map of the store.
-use Rattle.std.specs.Prelude.{Bool, true, false, List, [], ◌∷◌, Option, Some, None, unwrap_or, ℤ, pos}
+use Rattle.std.specs.Prelude.{◌≡◌, Bool, true, false, List, [], ◌∷◌, Option, Some, None, unwrap_or, ℤ, pos}
 use Rattle.morty_base.specs.declared.names.Key.{Key}
 use Rattle.morty_base.specs.Names.{same_key}
 
@@ -28,3 +28,7 @@ held map k = unwrap_or (found map k) (pos 0)
 abbrev pub after_writes : List Entry → List Entry → List Entry
 after_writes [] map = map
 after_writes (w ∷ ws) map = after_writes ws (w ∷ map)
+
+-- two maps that hold the same at each key
+pub record HoldTheSame (m n : List Entry) : Type 0 where
+  pub each : (k : Key) → held m k ≡ held n k

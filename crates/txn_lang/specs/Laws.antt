@@ -1,8 +1,10 @@
 -- What replays and serial runs have of every program.
-use Rattle.std.specs.Prelude.{◌≡◌, ℕ, ◌+◌, ◌≤◌, List, [], ◌∷◌, ◌++◌, map, take, length, reverse, Option, Some, None, IsSome, IsNone, MatchOption, slice_get, ℤ}
+use Rattle.std.specs.Prelude.{◌≡◌, ℕ, ◌+◌, ◌≤◌, List, [], ◌∷◌, ◌++◌, map, take, length, reverse, Some, None, IsSome, IsNone, MatchOption, slice_get, ℤ}
 use Rattle.std.specs.List.{All, IsDistinct}
+use Rattle.std.specs.Option.{option_or}
 use Rattle.morty_base.specs.declared.names.Key.{Key}
 use Rattle.morty_base.specs.Names.{same_key}
+use Rattle.txn_lang.specs.declared.limits.TheConstants.{MOST_OF_A_KIND, MOST_STEPS}
 use Rattle.txn_lang.specs.declared.tree.Block.{Block}
 use Rattle.txn_lang.specs.Tree.{commands}
 use Rattle.txn_lang.specs.Actions.{Actions, program_actions}
@@ -56,15 +58,11 @@ pub record AsksOnce (replayed : List ℤ → Run) : Type 0 where
   pub not_written : (answers : List ℤ) (k : Key) → (replayed answers).asks ≡ Some k →
       found (replayed answers).writes k ≡ None
 
-abbrev pub or_else : Option ℤ → Option ℤ → Option ℤ
-or_else None other = other
-or_else (Some x) other = Some x
-
 -- a key shows its last own write, else its answer
 abbrev pub KnowsItsOwn : (List ℤ → Run) → Type 0
 KnowsItsOwn replayed = (answers : List ℤ) (k : Key) →
     found (replayed answers).known k ≡
-    or_else (found (reverse (replayed answers).writes) k) (found (replayed answers).reads k)
+    option_or (found (reverse (replayed answers).writes) k) (found (replayed answers).reads k)
 
 -- a serial run ends, and the replay on the values that it read from its map is the same run; a replay that ended on
 -- values that a map holds is the serial run on that map
@@ -102,10 +100,10 @@ GoesOnWithAnswer body n = (answers : List ℤ) (k : Key) → (replay body n answ
 
 -- a run within the limits of programs
 pub record IsLimited (r : Run) : Type 0 where
-  pub begun : r.begun ≤ 4096
-  pub reads : length r.reads ≤ 64
-  pub writes : length r.writes ≤ 64
-  pub out : length r.out ≤ 64
+  pub begun : r.begun ≤ MOST_STEPS
+  pub reads : length r.reads ≤ MOST_OF_A_KIND
+  pub writes : length r.writes ≤ MOST_OF_A_KIND
+  pub out : length r.out ≤ MOST_OF_A_KIND
 
 -- replays and serial runs of a program
 pub record AreLimited (body : Block) (n : ℕ) : Type 0 where

@@ -4,7 +4,6 @@ pub mod Keys
 pub mod Actions
 pub mod Runs
 pub mod Limits
-pub mod Names
 pub mod Form
 pub mod Program
 pub mod Laws

@@ -2,6 +2,7 @@
 use Rattle.std.specs.Prelude.{ℕ, ◌+◌, ◌*◌, ◌<◌, ◌≤◌, ◌==◌, max, nat_lt, if◌then◌else◌, ⊤}
 use Rattle.txn_lang.specs.declared.tree.BinOp.{BinOp}
 use Rattle.txn_lang.specs.declared.tree.BinOp.TheVariants.{Add, Sub, Mul, Div, Rem, And, Or}
+use Rattle.txn_lang.specs.declared.limits.TheConstants.{DEEPEST_BLOCK, LONGEST_EXPRESSION, MOST_LOCALS, MOST_OF_A_KIND, MOST_STEPS, MOST_TIMES}
 use Rattle.txn_lang.specs.declared.limits.Kind.{Kind}
 use Rattle.txn_lang.specs.declared.limits.Kind.TheVariants as kind
 use Rattle.txn_lang.specs.Tree.{Term, Num, Local, Neg, Not, Bin, Command, Let, Read, Write, Print, If, Repeat, Abort, Commands, End, Then}
@@ -82,7 +83,7 @@ abbrev mutual
 
 -- an outermost expression, among n locals
 abbrev pub IsShort : ℕ → Term → Type 0
-IsShort n e = UsesBelow e n × (tokens e ≤ 64)
+IsShort n e = UsesBelow e n × (tokens e ≤ LONGEST_EXPRESSION)
 
 -- the numbers of locals, the lengths of expressions and the repeat numbers, among n locals
 abbrev mutual
@@ -92,7 +93,7 @@ abbrev mutual
   FitsIn n (Write table i e) = IsShort n i × IsShort n e
   FitsIn n (Print e) = IsShort n e
   FitsIn n (If e a b) = IsShort n e × Fits n a × Fits n b
-  FitsIn n (Repeat times body) = (times ≤ 4096) × Fits n body
+  FitsIn n (Repeat times body) = (times ≤ MOST_TIMES) × Fits n body
   FitsIn n Abort = ⊤
 
   pub Fits : ℕ → Commands → Type 0
@@ -101,10 +102,10 @@ abbrev mutual
 
 -- a program with n locals is within the limits
 pub record IsWithin (n : ℕ) (body : Commands) : Type 0 where
-  pub locals : n ≤ 64
-  pub steps_within : steps body ≤ 4096
-  pub reads_within : most kind.Read body ≤ 64
-  pub writes_within : most kind.Write body ≤ 64
-  pub prints_within : most kind.Print body ≤ 64
-  pub depth_within : depth body ≤ 32
+  pub locals : n ≤ MOST_LOCALS
+  pub steps_within : steps body ≤ MOST_STEPS
+  pub reads_within : most kind.Read body ≤ MOST_OF_A_KIND
+  pub writes_within : most kind.Write body ≤ MOST_OF_A_KIND
+  pub prints_within : most kind.Print body ≤ MOST_OF_A_KIND
+  pub depth_within : depth body ≤ DEEPEST_BLOCK
   pub each : Fits n body

@@ -13,10 +13,29 @@ pub enum Kind {
     Print,
 }
 
+/// How many locals a program may have.
+pub const MOST_LOCALS: usize = 64;
+
+/// How many statements a program may begin, with repeats multiplied out.
+pub const MOST_STEPS: u64 = 4096;
+
+/// The greatest repeat number.
+pub const MOST_TIMES: u32 = 4096;
+
+/// How many reads, how many writes and how many prints a program may make, with repeats multiplied out.
+pub const MOST_OF_A_KIND: u64 = 64;
+
+/// How many blocks may stand in one another, with the outermost.
+pub const DEEPEST_BLOCK: u64 = 32;
+
+/// How many tokens an outermost expression may have.
+pub const LONGEST_EXPRESSION: u64 = 64;
+
 // Above every limit: a count stops here.
 const PLENTY: u64 = 5000;
 
-fn operator_level(op: BinOp) -> u64
+/// How tight an operator binds.
+pub fn operator_level(op: BinOp) -> u64
     ensures { result ≡ operator_level op }
 {
     match op {
@@ -60,7 +79,7 @@ fn with_parentheses(count: u64, operand: &Expr, least: u64) -> u64
     }
 }
 
-/// How many tokens the canonical text of an expression has, up to 5,000.
+/// How many tokens the canonical text of an expression has, up to `PLENTY`.
 pub fn tokens(e: &Expr) -> u64
     ensures { result ≡ min (tokens (term e.now)) PLENTY }
 {
@@ -169,7 +188,7 @@ fn uses_below(e: &Expr, locals: usize) -> bool
 fn is_short(e: &Expr, locals: usize) -> bool
     ensures { IsTrue result ↔ IsShort locals (term e.now) }
 {
-    uses_below(e, locals) && tokens(e) <= 64
+    uses_below(e, locals) && tokens(e) <= LONGEST_EXPRESSION
 }
 
 #[cycle(fits)]
@@ -182,7 +201,7 @@ fn fits_in(stmt: &Stmt, locals: usize) -> bool
         Stmt::Write(_, index, e) => is_short(index, locals) && is_short(e, locals),
         Stmt::Print(e) => is_short(e, locals),
         Stmt::If(e, a, b) => is_short(e, locals) && fits(a, locals) && fits(b, locals),
-        Stmt::Repeat(times, body) => *times <= 4096 && fits(body, locals),
+        Stmt::Repeat(times, body) => *times <= MOST_TIMES && fits(body, locals),
         Stmt::Abort => true,
     }
 }
@@ -203,11 +222,11 @@ fn fits(block: &Block, locals: usize) -> bool
 pub fn is_within(locals: usize, body: &Block) -> bool
     ensures { IsTrue result ↔ IsWithin locals (commands body.now) }
 {
-    locals <= 64
-        && steps(body) <= 4096
-        && most(Kind::Read, body) <= 64
-        && most(Kind::Write, body) <= 64
-        && most(Kind::Print, body) <= 64
-        && depth(body) <= 32
+    locals <= MOST_LOCALS
+        && steps(body) <= MOST_STEPS
+        && most(Kind::Read, body) <= MOST_OF_A_KIND
+        && most(Kind::Write, body) <= MOST_OF_A_KIND
+        && most(Kind::Print, body) <= MOST_OF_A_KIND
+        && depth(body) <= DEEPEST_BLOCK
         && fits(body, locals)
 }

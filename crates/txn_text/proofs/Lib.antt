@@ -1,4 +1,4 @@
-pub mod Numbers
-pub mod Fronts
-pub mod Steps
-pub mod Laws
+pub mod NumberLemmas
+pub mod FrontLemmas
+pub mod TokensLemmas
+pub mod TokensLieInOrder

@@ -1,22 +1,11 @@
 -- The bytes of a script's text.
-use Rattle.std.specs.Prelude.{ℕ, Bool, ◌+◌, ◌-◌, ◌*◌, ◌==◌, ◌||◌, ◌&&◌, not, nat_le, nat_lt, List, codes, fold, if◌then◌else◌}
+use Rattle.std.specs.Prelude.{ℕ, Bool, ◌+◌, ◌-◌, ◌*◌, ◌==◌, ◌||◌, ◌&&◌, not, nat_lt, List, codes, fold, if◌then◌else◌}
 use Rattle.std.specs.List.{list_any}
+use Rattle.txn_text.specs.declared.bytes.TheConstants.{GREATEST_NUMBER}
 
 -- tab, line feed, carriage return and space
 abbrev pub is_blank : ℕ → Bool
 is_blank b = b == 9 || b == 10 || b == 13 || b == 32
-
--- a to z
-abbrev pub is_letter : ℕ → Bool
-is_letter b = nat_le 97 b && nat_le b 122
-
--- 0 to 9
-abbrev pub is_digit : ℕ → Bool
-is_digit b = nat_le 48 b && nat_le b 57
-
--- a letter, a digit or an underscore
-abbrev pub is_name_byte : ℕ → Bool
-is_name_byte b = is_letter b || is_digit b || b == 95
 
 -- any byte but a line feed, which ends a comment
 abbrev pub in_comment : ℕ → Bool
@@ -36,4 +25,4 @@ number_of digits = fold (λ n b. n * 10 + (b - 48)) 0 digits
 
 -- the number that a token's digits stand for; those of a larger number stand in no token, and count as 0
 abbrev pub number_value_of : List ℕ → ℕ
-number_value_of digits = if nat_lt 9223372036854775807 (number_of digits) then 0 else number_of digits
+number_value_of digits = if nat_lt GREATEST_NUMBER (number_of digits) then 0 else number_of digits

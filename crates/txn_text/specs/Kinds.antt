@@ -1,24 +1,18 @@
 -- What the bytes of a token say of its kind.
-use Rattle.std.specs.Prelude.{◌≡◌, ℕ, ◌<◌, ◌≤◌, true, false, List, [], ◌∷◌, length, slice_index, Ok}
+use Rattle.std.specs.Prelude.{◌≡◌, ℕ, ◌<◌, ◌≤◌, true, List, [], ◌∷◌, length, Ok}
 use Rattle.std.specs.List.{list_all}
-use Rattle.txn_text.specs.Bytes.{is_letter, is_digit, is_name_byte, is_symbol, is_pair, number_of}
-use Rattle.txn_text.specs.Words.{is_reserved}
+use Rattle.morty_base.specs.ScriptNames.{is_digit, is_reserved, is_name}
+use Rattle.txn_text.specs.declared.bytes.TheConstants.{GREATEST_NUMBER}
+use Rattle.txn_text.specs.Bytes.{is_symbol, is_pair, number_of}
 use Rattle.txn_text.specs.Tokens.{token_bytes, line_of, tokens_of}
 use Rattle.txn_text.specs.declared.kinds.Token.{Token}
 use Rattle.txn_text.specs.declared.kinds.TokenKind.{TokenKind}
 use Rattle.txn_text.specs.declared.kinds.TokenKind.TheVariants.{Name, Word, Number, Sym}
 
--- a letter, and then letters, digits and underscores, at most 32 bytes and no reserved word
-pub record IsName (bytes : List ℕ) : Type 0 where
-  pub first : is_letter (slice_index bytes 0) ≡ true
-  pub all : list_all is_name_byte bytes ≡ true
-  pub short : length bytes ≤ 32
-  pub free : is_reserved bytes ≡ false
-
--- digits, of a number of at most 63 bits
+-- digits, of a number that is not too great
 pub record IsNumber (bytes : List ℕ) : Type 0 where
   pub all : list_all is_digit bytes ≡ true
-  pub small : number_of bytes ≤ 9223372036854775807
+  pub small : number_of bytes ≤ GREATEST_NUMBER
 
 -- a symbol of one byte or of two
 abbrev pub IsSymbol : List ℕ → Type 0
@@ -28,7 +22,7 @@ IsSymbol (b ∷ c ∷ []) = is_pair b c ≡ true
 IsSymbol (b ∷ c ∷ d ∷ bs) = ⊥
 
 abbrev pub IsOfKind : TokenKind → List ℕ → Type 0
-IsOfKind Name bytes = IsName bytes
+IsOfKind Name bytes = is_name bytes ≡ true
 IsOfKind Word bytes = is_reserved bytes ≡ true
 IsOfKind Number bytes = IsNumber bytes
 IsOfKind Sym bytes = IsSymbol bytes

@@ -1,8 +1,10 @@
 -- The tokens of a text.
 use Rattle.std.specs.Prelude.{◌≡◌, ℕ, zero, suc, ◌+◌, ◌-◌, ◌==◌, nat_lt, List, [], ◌∷◌, length, take, drop, count_by, take_while, if◌then◌else◌, Result, Ok, Err}
 use Rattle.std.specs.List.{prefix_len}
-use Rattle.txn_text.specs.Bytes.{is_blank, is_letter, is_digit, is_name_byte, is_symbol, is_pair, in_comment, number_of}
-use Rattle.txn_text.specs.Words.{is_reserved}
+use Rattle.morty_base.specs.declared.script_names.TheConstants.{LONGEST_NAME}
+use Rattle.morty_base.specs.ScriptNames.{is_letter, is_digit, is_name_byte, is_reserved}
+use Rattle.txn_text.specs.Bytes.{is_blank, is_symbol, is_pair, in_comment, number_of}
+use Rattle.txn_text.specs.declared.bytes.TheConstants.{GREATEST_NUMBER}
 use Rattle.txn_text.specs.declared.kinds.Token.{Token}
 use Rattle.txn_text.specs.declared.kinds.TokenKind.TheVariants.{Name, Word, Number, Sym}
 use Rattle.txn_text.specs.declared.faults.FaultKind.TheVariants.{Byte, LongName, Number as TooLarge}
@@ -19,16 +21,16 @@ line_of text at = count_by (λ b. b == 10) (take at text) + 1
 abbrev pub token_bytes : List ℕ → Token → List ℕ
 token_bytes text token = take (token.end - token.start) (drop token.start text)
 
--- a run of name bytes is a reserved word, or a name of at most 32 bytes
+-- a run of name bytes is a reserved word or a name, unless it is too long
 abbrev pub name_front : List ℕ → Front
 name_front name =
-    if nat_lt 32 (length name) then Bad LongName
+    if nat_lt LONGEST_NAME (length name) then Bad LongName
     else Lexeme (if is_reserved name then Word else Name) (length name)
 
--- a run of digits is a number of at most 63 bits
+-- a run of digits is a number, unless it is too great
 abbrev pub number_front : List ℕ → Front
 number_front digits =
-    if nat_lt 9223372036854775807 (number_of digits) then Bad TooLarge
+    if nat_lt GREATEST_NUMBER (number_of digits) then Bad TooLarge
     else Lexeme Number (length digits)
 
 -- a symbol of one byte

@@ -2,12 +2,9 @@ ghost use Rattle.std.specs.Prelude.{◌≡◌, ◌<◌, length, drop, IfOk};
 ghost use Rattle.txn_text.specs.Tokens.{front_of, name_front, number_front, single_front, symbol_front, tokens_of, Gives};
 ghost use Rattle.txn_text.specs.Kinds.{AreTokens};
 
-use crate::bytes::{
-    comment_len, digits_len, is_blank, is_digit, is_letter, is_pair, is_reserved, is_symbol,
-    name_len, number,
-};
+use crate::bytes::{comment_len, digits_len, is_blank, is_pair, is_symbol, name_len, number};
 use crate::{FaultKind, TextFault, Token, TokenKind};
-use morty_base::List;
+use morty_base::{LONGEST_NAME, List, is_digit, is_letter, is_reserved};
 use std::alloc::Global;
 
 /// What stands at the front of a text: a blank or a comment, a token, each with its length, or a fault.
@@ -40,7 +37,7 @@ fn symbol_front(first: u8, rest: &[u8]) -> Front
 fn name_front(name: &[u8]) -> Front
     ensures { result ≡ name_front name.now }
 {
-    if name.len() > 32 {
+    if name.len() > LONGEST_NAME {
         return Front::Bad(FaultKind::LongName);
     }
     let kind = if is_reserved(name) {
@@ -91,7 +88,7 @@ fn front_at(text: &[u8], at: usize) -> Front
 
 /// The tokens of a text, or its first bad token.
 pub fn tokens(alloc: Global, text: &[u8]) -> Result<List<Token>, TextFault>
-    requires { length text.now < 4294967295 }
+    requires { length text.now < u32.MAX }
     ensures exact { Gives result (tokens_of text.now) }
     ensures in_order { IfOk result (λ toks. AreTokens text.now 0 toks) }
 {

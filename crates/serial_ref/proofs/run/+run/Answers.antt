@@ -1,9 +1,9 @@
 use Rattle.std.proofs.Common.{true, false, Ok, ap, subst, ◌∙◌, arith}
 use Rattle.txn_lang.specs.Tree.{commands}
 use Rattle.txn_lang.specs.Actions.{all_actions}
-use Rattle.serial_ref.specs.Whole.{IsStep}
-use Rattle.serial_ref.proofs.Steps.{goes_on_picked}
-use Rattle.serial_ref.proofs.Repeats.{one_more, stops_within}
+use Rattle.serial_ref.specs.Execution.{IsStep}
+use Rattle.serial_ref.proofs.ExecutionLemmas.{goes_on_picked}
+use Rattle.serial_ref.proofs.RepeatLemmas.{one_more, stops_within}
 use Rattle.serial_ref.proofs.run.+run.Goals as goal
 
 pub statement-returns-in-Ok-true-clause-step : goal.statement-returns-in-Ok-true-clause-step

@@ -2,8 +2,8 @@ use Rattle.std.proofs.Common.{◌≡◌, ◌+◌, ◌≤◌, length, drop}
 use Rattle.txn_lang.specs.Tree.{commands, commands_of}
 use Rattle.txn_lang.specs.Actions.{all_actions}
 use Rattle.txn_lang.specs.Limits.{steps, Fits}
-use Rattle.serial_ref.proofs.Steps.{IsLeft}
-use Rattle.serial_ref.proofs.Repeats.{IsRepeating}
+use Rattle.serial_ref.proofs.ExecutionLemmas.{IsLeft}
+use Rattle.serial_ref.proofs.RepeatLemmas.{IsRepeating}
 use Rattle.serial_ref.proofs.run.+run.Given as goal
 
 abbrev pub invariant-block-loop-stmt : goal.invariant-block-loop-stmt

@@ -1,5 +1,5 @@
 use Rattle.std.proofs.Common.{arith}
-use Rattle.txn_text.proofs.Numbers.{front-le-number}
+use Rattle.txn_text.proofs.NumberLemmas.{front-le-number}
 use Rattle.txn_text.proofs.bytes.number.Goals as goal
 
 pub returns-then-value-digit : goal.returns-then-value-digit

@@ -3,9 +3,9 @@ use Rattle.std.proofs.lemmas.Bool.{cond-true, cond-false, eq-eqb, ne_eqb}
 use Rattle.std.proofs.lemmas.List.{append-nil}
 use Rattle.txn_text.specs.Tokens.{line_of, tokens_of}
 use Rattle.txn_text.specs.declared.faults.TextFault.TheVariants.{At}
-use Rattle.txn_text.proofs.Fronts.{Lies, ends, gap_lies, lexeme_lies}
-use Rattle.txn_text.proofs.Steps.{with_front, from_byte, with_front-nil, with_front_push, gap_step, lexeme_step, bad_step, at_end, line_of_more}
-use Rattle.txn_text.proofs.Laws.{tokens_lie_in_order}
+use Rattle.txn_text.proofs.FrontLemmas.{Lies, ends, gap_lies, lexeme_lies}
+use Rattle.txn_text.proofs.TokensLemmas.{with_front, from_byte, with_front-nil, with_front_push, gap_step, lexeme_step, bad_step, at_end, line_of_more}
+use Rattle.txn_text.proofs.TokensLieInOrder.{tokens_lie_in_order}
 use Rattle.txn_text.proofs.scan.tokens.Goals as goal
 use Rattle.txn_text.proofs.scan.tokens.Goals.{then-text-at-eq10, else-text-at-eq10}
 

@@ -1,6 +1,6 @@
 use Rattle.std.proofs.Common.{◌≡◌, ◌≤◌, ◌-◌, length}
 use Rattle.txn_text.specs.Tokens.{tokens_of, line_of}
-use Rattle.txn_text.proofs.Steps.{with_front, from_byte}
+use Rattle.txn_text.proofs.TokensLemmas.{with_front, from_byte}
 use Rattle.txn_text.proofs.scan.tokens.Given as goal
 
 abbrev pub invariant-loop-at : goal.invariant-loop-at
