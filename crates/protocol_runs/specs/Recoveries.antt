@@ -1,18 +1,16 @@
 -- Runs in which wardens finish what a stopped client left open.
-use Rattle.std.specs.Prelude.{◌≡◌, pos, true, [], ◌∷◌, Some, None}
-use Rattle.protocol.specs.Words.{Client, Replica, Warden, Picked, Ran, Deliver, Go, Recover, Stop, Commit, Abandon, ToCommit, Get, Note, Puts, Prepare, Voted}
-use Rattle.protocol.specs.Words.{Finalize, Accepted, Decide, Ask, Told, first_wid}
+use Rattle.std.specs.Prelude.{◌≡◌, pos, [], ◌∷◌, ◌++◌, Some, None}
+use Rattle.protocol.specs.Words.{Client, Replica, Warden, Picked, Deliver, Recover, Stop, Commit, Abandon, ToCommit}
+use Rattle.protocol.specs.Words.{Finalize, Accepted, Decide, Ask, Told}
 use Rattle.protocol.specs.World.State.{World, first_world}
 use Rattle.protocol.specs.World.Events.{to_all, replay_from}
 use Rattle.protocol.specs.World.Decided.{decided_by}
-use Rattle.protocol_runs.specs.Samples.{x1, version_at, exec_of, one, sent_so, written, pair, increased, inc, only, plan, four}
+use Rattle.protocol_runs.specs.Samples.{two_votes, two_votes_mail, exec_of, one, sent_so, pair, increased, inc, only, plan, four}
 
 -- the client stops with no vote delivered; warden 1 proposes in view 1, which one replica accepts; warden 2 asks in view 2
 abbrev pub contest_end : World
-contest_end = replay_from (plan 3 2 (only inc 10 ∷ []) four 1) first_world (
-    Picked (Client 1) Go ∷ Ran 1 ∷ Picked (Replica 1) (Deliver 0) ∷ Picked (Client 1) (Deliver 3) ∷ Ran 1 ∷
-    Picked (Replica 1) (Deliver 7) ∷ Picked (Replica 2) (Deliver 8) ∷ Picked (Client 1) Stop ∷
-    Picked (Warden 1) (Recover (exec_of 10 1)) ∷ Picked (Replica 1) (Deliver 12) ∷
+contest_end = replay_from (plan 3 2 (only inc 10 ∷ []) four 1) first_world (two_votes ++
+    Picked (Client 1) Stop ∷ Picked (Warden 1) (Recover (exec_of 10 1)) ∷ Picked (Replica 1) (Deliver 12) ∷
     Picked (Replica 2) (Deliver 13) ∷ Picked (Warden 1) (Deliver 15) ∷ Picked (Warden 1) (Deliver 16) ∷
     Picked (Replica 1) (Deliver 17) ∷ Picked (Warden 2) (Recover (exec_of 10 1)) ∷
     Picked (Replica 1) (Deliver 21) ∷ Picked (Replica 3) (Deliver 23) ∷ Picked (Warden 2) (Deliver 24) ∷
@@ -21,13 +19,7 @@ contest_end = replay_from (plan 3 2 (only inc 10 ∷ []) four 1) first_world (
 
 -- warden 2 proposes what was accepted in view 1, and decides it
 pub record ViewContest : Type 0 where
-  pub mail : contest_end.mail ≡ sent_so (
-      to_all 3 (Client 1) (Get (exec_of 10 1) x1) ∷  -- 0 to 2
-      one (Replica 1) (Client 1) (Note (version_at 10 1) x1 first_wid (pos 4) true None) ∷  -- 3
-      to_all 3 (Client 1) (Puts (exec_of 10 1) (written x1 (pos 5))) ∷  -- 4 to 6
-      to_all 3 (Client 1) (Prepare (exec_of 10 1) (increased (pos 4))) ∷  -- 7 to 9
-      one (Replica 1) (Client 1) (Voted (exec_of 10 1) Commit) ∷  -- 10
-      one (Replica 2) (Client 1) (Voted (exec_of 10 1) Commit) ∷  -- 11
+  pub mail : contest_end.mail ≡ sent_so (two_votes_mail ++  -- 0 to 11
       to_all 3 (Warden 1) (Ask (exec_of 10 1) 1) ∷  -- 12 to 14
       one (Replica 1) (Warden 1) (Told (exec_of 10 1) 1 (Some Commit) None None (Some (increased (pos 4)))) ∷  -- 15
       one (Replica 2) (Warden 1) (Told (exec_of 10 1) 1 (Some Commit) None None (Some (increased (pos 4)))) ∷  -- 16
@@ -48,22 +40,14 @@ pub record ViewContest : Type 0 where
 
 -- a warden that hears of one Commit vote and of a replica without a vote; then that replica gets the Prepare
 abbrev pub abandoning_end : World
-abandoning_end = replay_from (plan 3 2 (only inc 10 ∷ []) four 1) first_world (
-    Picked (Client 1) Go ∷ Ran 1 ∷ Picked (Replica 1) (Deliver 0) ∷ Picked (Client 1) (Deliver 3) ∷ Ran 1 ∷
-    Picked (Replica 1) (Deliver 7) ∷ Picked (Replica 2) (Deliver 8) ∷ Picked (Client 1) Stop ∷
-    Picked (Warden 1) (Recover (exec_of 10 1)) ∷ Picked (Replica 1) (Deliver 12) ∷
+abandoning_end = replay_from (plan 3 2 (only inc 10 ∷ []) four 1) first_world (two_votes ++
+    Picked (Client 1) Stop ∷ Picked (Warden 1) (Recover (exec_of 10 1)) ∷ Picked (Replica 1) (Deliver 12) ∷
     Picked (Replica 3) (Deliver 14) ∷ Picked (Warden 1) (Deliver 15) ∷ Picked (Warden 1) (Deliver 16) ∷
     Picked (Replica 3) (Deliver 9) ∷ [])
 
 -- the warden proposes Abandon, and a replica that promised its view votes no more
 pub record WardenAbandons : Type 0 where
-  pub mail : abandoning_end.mail ≡ sent_so (
-      to_all 3 (Client 1) (Get (exec_of 10 1) x1) ∷  -- 0 to 2
-      one (Replica 1) (Client 1) (Note (version_at 10 1) x1 first_wid (pos 4) true None) ∷  -- 3
-      to_all 3 (Client 1) (Puts (exec_of 10 1) (written x1 (pos 5))) ∷  -- 4 to 6
-      to_all 3 (Client 1) (Prepare (exec_of 10 1) (increased (pos 4))) ∷  -- 7 to 9
-      one (Replica 1) (Client 1) (Voted (exec_of 10 1) Commit) ∷  -- 10
-      one (Replica 2) (Client 1) (Voted (exec_of 10 1) Commit) ∷  -- 11
+  pub mail : abandoning_end.mail ≡ sent_so (two_votes_mail ++  -- 0 to 11
       to_all 3 (Warden 1) (Ask (exec_of 10 1) 1) ∷  -- 12 to 14
       one (Replica 1) (Warden 1) (Told (exec_of 10 1) 1 (Some Commit) None None (Some (increased (pos 4)))) ∷  -- 15
       one (Replica 3) (Warden 1) (Told (exec_of 10 1) 1 None None None None) ∷  -- 16
@@ -74,28 +58,19 @@ pub record WardenAbandons : Type 0 where
 
 -- view 1 proposes Abandon, which replica 3 accepts; view 2 proposes Commit, which replica 1 accepts; view 3 hears of both
 abbrev pub three_end : World
-three_end = replay_from (plan 3 2 (only inc 10 ∷ []) four 1) first_world (
-    Picked (Client 1) Go ∷ Ran 1 ∷ Picked (Replica 1) (Deliver 0) ∷ Picked (Client 1) (Deliver 3) ∷ Ran 1 ∷
-    Picked (Replica 1) (Deliver 7) ∷ Picked (Replica 2) (Deliver 8) ∷ Picked (Client 1) Stop ∷
-    Picked (Warden 1) (Recover (exec_of 10 1)) ∷ Picked (Replica 1) (Deliver 12) ∷
+three_end = replay_from (plan 3 2 (only inc 10 ∷ []) four 1) first_world (two_votes ++
+    Picked (Client 1) Stop ∷ Picked (Warden 1) (Recover (exec_of 10 1)) ∷ Picked (Replica 1) (Deliver 12) ∷
     Picked (Replica 3) (Deliver 14) ∷ Picked (Warden 1) (Deliver 15) ∷ Picked (Warden 1) (Deliver 16) ∷
     Picked (Replica 3) (Deliver 19) ∷ Picked (Warden 2) (Recover (exec_of 10 1)) ∷
     Picked (Replica 1) (Deliver 21) ∷ Picked (Replica 2) (Deliver 22) ∷ Picked (Warden 2) (Deliver 24) ∷
-    Picked (Warden 2) (Deliver 25) ∷ Picked (Replica 1) (Deliver 26) ∷
-    Picked (Warden 1) (Recover (exec_of 10 1)) ∷ Picked (Replica 3) (Deliver 32) ∷
-    Picked (Replica 1) (Deliver 30) ∷ Picked (Warden 1) (Deliver 33) ∷ Picked (Warden 1) (Deliver 34) ∷
-    Picked (Replica 1) (Deliver 35) ∷ Picked (Replica 3) (Deliver 37) ∷ Picked (Warden 1) (Deliver 38) ∷
-    Picked (Warden 1) (Deliver 39) ∷ [])
+    Picked (Warden 2) (Deliver 25) ∷ Picked (Replica 1) (Deliver 26) ∷ Picked (Warden 1) (Recover (exec_of 10 1)) ∷
+    Picked (Replica 3) (Deliver 32) ∷ Picked (Replica 1) (Deliver 30) ∷ Picked (Warden 1) (Deliver 33) ∷
+    Picked (Warden 1) (Deliver 34) ∷ Picked (Replica 1) (Deliver 35) ∷ Picked (Replica 3) (Deliver 37) ∷
+    Picked (Warden 1) (Deliver 38) ∷ Picked (Warden 1) (Deliver 39) ∷ [])
 
 -- view 3 proposes what was accepted in view 2, and so decides Commit
 pub record ThreeViews : Type 0 where
-  pub mail : three_end.mail ≡ sent_so (
-      to_all 3 (Client 1) (Get (exec_of 10 1) x1) ∷  -- 0 to 2
-      one (Replica 1) (Client 1) (Note (version_at 10 1) x1 first_wid (pos 4) true None) ∷  -- 3
-      to_all 3 (Client 1) (Puts (exec_of 10 1) (written x1 (pos 5))) ∷  -- 4 to 6
-      to_all 3 (Client 1) (Prepare (exec_of 10 1) (increased (pos 4))) ∷  -- 7 to 9
-      one (Replica 1) (Client 1) (Voted (exec_of 10 1) Commit) ∷  -- 10
-      one (Replica 2) (Client 1) (Voted (exec_of 10 1) Commit) ∷  -- 11
+  pub mail : three_end.mail ≡ sent_so (two_votes_mail ++  -- 0 to 11
       to_all 3 (Warden 1) (Ask (exec_of 10 1) 1) ∷  -- 12 to 14
       one (Replica 1) (Warden 1) (Told (exec_of 10 1) 1 (Some Commit) None None (Some (increased (pos 4)))) ∷  -- 15
       one (Replica 3) (Warden 1) (Told (exec_of 10 1) 1 None None None None) ∷  -- 16

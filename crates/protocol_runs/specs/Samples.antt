@@ -1,9 +1,12 @@
 -- A few programs, and scripts made of them, for runs that are computed.
-use Rattle.std.specs.Prelude.{ℕ, ℤ, pos, ◌+ℤ◌, List, [], ◌∷◌, Some, None, flat_map}
-use Rattle.protocol.specs.Words.{Version, Exec, Wid, Key, NodeId, Done, first_wid, Choice, Write, Content, Accept, Kept, BaseEntry, Body, Envelope}
+use Rattle.std.specs.Prelude.{ℕ, ℤ, pos, ◌+ℤ◌, true, List, [], ◌∷◌, Some, None, flat_map}
+use Rattle.protocol.specs.Words.{Version, Exec, Wid, Key, NodeId, Client, Replica, Done, first_wid, Commit, Choice, Write, Content, Accept, Kept, BaseEntry}
+use Rattle.protocol.specs.Words.{Body, Envelope}
+use Rattle.protocol.specs.Words.{Get, Note, Puts, Prepare, Voted, Event, Picked, Ran, Go, Deliver}
 use Rattle.protocol.specs.declared.First2.{First2}
 use Rattle.protocol.specs.Client.State.{Walk, Txn}
 use Rattle.protocol.specs.World.State.{Plan}
+use Rattle.protocol.specs.World.Events.{to_all}
 
 -- the keys x[1] and y[1]
 abbrev pub x1 : Key
@@ -115,3 +118,20 @@ plan replicas wardens clients firsts gap = record {
 -- x[1] is 4 at first
 abbrev pub four : List First2
 four = record { key = x1; value = pos 4 } ∷ []
+
+-- client 1 runs inc over three replicas, and replicas 1 and 2 voted Commit; their votes are under way
+abbrev pub two_votes : List Event
+two_votes =
+    Picked (Client 1) Go ∷ Ran 1 ∷ Picked (Replica 1) (Deliver 0) ∷ Picked (Client 1) (Deliver 3) ∷ Ran 1 ∷
+    Picked (Replica 1) (Deliver 7) ∷ Picked (Replica 2) (Deliver 8) ∷ []
+
+-- what was sent by then
+abbrev pub two_votes_mail : List (List Envelope)
+two_votes_mail =
+    to_all 3 (Client 1) (Get (exec_of 10 1) x1) ∷  -- 0 to 2
+    one (Replica 1) (Client 1) (Note (version_at 10 1) x1 first_wid (pos 4) true None) ∷  -- 3
+    to_all 3 (Client 1) (Puts (exec_of 10 1) (written x1 (pos 5))) ∷  -- 4 to 6
+    to_all 3 (Client 1) (Prepare (exec_of 10 1) (increased (pos 4))) ∷  -- 7 to 9
+    one (Replica 1) (Client 1) (Voted (exec_of 10 1) Commit) ∷  -- 10
+    one (Replica 2) (Client 1) (Voted (exec_of 10 1) Commit) ∷  -- 11
+    []

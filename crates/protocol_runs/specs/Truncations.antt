@@ -1,17 +1,16 @@
 -- Runs in which a warden drops the past.
-use Rattle.std.specs.Prelude.{◌≡◌, pos, true, [], ◌∷◌, Some, None}
-use Rattle.protocol.specs.Words.{Client, Replica, Warden, Picked, Ran, Deliver, Go, Truncate, Commit, Abandon, ToCommit, Get, Note, Puts, Prepare, Voted}
+use Rattle.std.specs.Prelude.{◌≡◌, pos, true, [], ◌∷◌, ◌++◌, Some, None}
+use Rattle.protocol.specs.Words.{Client, Replica, Warden, Picked, Ran, Deliver, Go, Truncate, Commit, Abandon, ToCommit, Get, Note}
 use Rattle.protocol.specs.Words.{Finalize, Accepted, Decide, Ask, Told, Fence, Fenced, Drops, TooOld, first_wid}
 use Rattle.protocol.specs.World.State.{World, first_world}
 use Rattle.protocol.specs.World.Events.{to_all, replay_from}
 use Rattle.protocol.specs.World.Decided.{decided_by}
-use Rattle.protocol_runs.specs.Samples.{x1, version_at, exec_of, wid_of, one, sent_so, written, entry_of, kept_as, increased, inc, look, only, plan, four}
+use Rattle.protocol_runs.specs.Samples.{two_votes, two_votes_mail, x1, version_at, exec_of, wid_of, one, sent_so, entry_of, kept_as, increased, inc}
+use Rattle.protocol_runs.specs.Samples.{look, only, plan, four}
 
 -- a warden drops version 20.0, on which an execution is voted and undecided; then client 2 comes too late, and tries again
 abbrev pub cut_end : World
-cut_end = replay_from (plan 3 1 (only inc 10 ∷ only look 15 ∷ []) four 10) first_world (
-    Picked (Client 1) Go ∷ Ran 1 ∷ Picked (Replica 1) (Deliver 0) ∷ Picked (Client 1) (Deliver 3) ∷ Ran 1 ∷
-    Picked (Replica 1) (Deliver 7) ∷ Picked (Replica 2) (Deliver 8) ∷
+cut_end = replay_from (plan 3 1 (only inc 10 ∷ only look 15 ∷ []) four 10) first_world (two_votes ++
     Picked (Warden 1) (Truncate (version_at 20 0)) ∷ Picked (Replica 1) (Deliver 12) ∷
     Picked (Replica 2) (Deliver 13) ∷ Picked (Warden 1) (Deliver 15) ∷ Picked (Warden 1) (Deliver 16) ∷
     Picked (Replica 1) (Deliver 17) ∷ Picked (Replica 2) (Deliver 18) ∷ Picked (Warden 1) (Deliver 20) ∷
@@ -23,13 +22,7 @@ cut_end = replay_from (plan 3 1 (only inc 10 ∷ only look 15 ∷ []) four 10) f
 
 -- the execution is recovered first, and the Drop carries its write; a Get below is too old, and one above is answered from the base
 pub record Truncated : Type 0 where
-  pub mail : cut_end.mail ≡ sent_so (
-      to_all 3 (Client 1) (Get (exec_of 10 1) x1) ∷  -- 0 to 2
-      one (Replica 1) (Client 1) (Note (version_at 10 1) x1 first_wid (pos 4) true None) ∷  -- 3
-      to_all 3 (Client 1) (Puts (exec_of 10 1) (written x1 (pos 5))) ∷  -- 4 to 6
-      to_all 3 (Client 1) (Prepare (exec_of 10 1) (increased (pos 4))) ∷  -- 7 to 9
-      one (Replica 1) (Client 1) (Voted (exec_of 10 1) Commit) ∷  -- 10
-      one (Replica 2) (Client 1) (Voted (exec_of 10 1) Commit) ∷  -- 11
+  pub mail : cut_end.mail ≡ sent_so (two_votes_mail ++  -- 0 to 11
       to_all 3 (Warden 1) (Fence (version_at 20 0)) ∷  -- 12 to 14
       one (Replica 1) (Warden 1) (Fenced (version_at 20 0) [] [] (kept_as (exec_of 10 1) (increased (pos 4)) ∷ [])) ∷  -- 15
       one (Replica 2) (Warden 1) (Fenced (version_at 20 0) [] [] (kept_as (exec_of 10 1) (increased (pos 4)) ∷ [])) ∷  -- 16
@@ -54,25 +47,17 @@ pub record Truncated : Type 0 where
 
 -- client 2 reads at version 15.2, which a truncation of 20.0 drops before it prepares
 abbrev pub reader_end : World
-reader_end = replay_from (plan 3 1 (only inc 10 ∷ only look 15 ∷ []) four 10) first_world (
-    Picked (Client 1) Go ∷ Ran 1 ∷ Picked (Replica 1) (Deliver 0) ∷ Picked (Client 1) (Deliver 3) ∷ Ran 1 ∷
-    Picked (Replica 1) (Deliver 7) ∷ Picked (Replica 2) (Deliver 8) ∷ Picked (Client 2) Go ∷ Ran 2 ∷
-    Picked (Replica 1) (Deliver 12) ∷ Picked (Warden 1) (Truncate (version_at 20 0)) ∷
-    Picked (Replica 1) (Deliver 16) ∷ Picked (Replica 2) (Deliver 17) ∷ Picked (Warden 1) (Deliver 19) ∷
-    Picked (Warden 1) (Deliver 20) ∷ Picked (Replica 1) (Deliver 21) ∷ Picked (Replica 2) (Deliver 22) ∷
-    Picked (Warden 1) (Deliver 24) ∷ Picked (Warden 1) (Deliver 25) ∷ Picked (Replica 1) (Deliver 26) ∷
-    Picked (Replica 2) (Deliver 27) ∷ Picked (Warden 1) (Deliver 29) ∷ Picked (Warden 1) (Deliver 30) ∷
-    Picked (Replica 1) (Deliver 35) ∷ [])
+reader_end = replay_from (plan 3 1 (only inc 10 ∷ only look 15 ∷ []) four 10) first_world (two_votes ++
+    Picked (Client 2) Go ∷ Ran 2 ∷ Picked (Replica 1) (Deliver 12) ∷
+    Picked (Warden 1) (Truncate (version_at 20 0)) ∷ Picked (Replica 1) (Deliver 16) ∷
+    Picked (Replica 2) (Deliver 17) ∷ Picked (Warden 1) (Deliver 19) ∷ Picked (Warden 1) (Deliver 20) ∷
+    Picked (Replica 1) (Deliver 21) ∷ Picked (Replica 2) (Deliver 22) ∷ Picked (Warden 1) (Deliver 24) ∷
+    Picked (Warden 1) (Deliver 25) ∷ Picked (Replica 1) (Deliver 26) ∷ Picked (Replica 2) (Deliver 27) ∷
+    Picked (Warden 1) (Deliver 29) ∷ Picked (Warden 1) (Deliver 30) ∷ Picked (Replica 1) (Deliver 35) ∷ [])
 
 -- replica 1 drops with a base that would change what that reader saw, and sends it nothing
 pub record DroppedReader : Type 0 where
-  pub mail : reader_end.mail ≡ sent_so (
-      to_all 3 (Client 1) (Get (exec_of 10 1) x1) ∷  -- 0 to 2
-      one (Replica 1) (Client 1) (Note (version_at 10 1) x1 first_wid (pos 4) true None) ∷  -- 3
-      to_all 3 (Client 1) (Puts (exec_of 10 1) (written x1 (pos 5))) ∷  -- 4 to 6
-      to_all 3 (Client 1) (Prepare (exec_of 10 1) (increased (pos 4))) ∷  -- 7 to 9
-      one (Replica 1) (Client 1) (Voted (exec_of 10 1) Commit) ∷  -- 10
-      one (Replica 2) (Client 1) (Voted (exec_of 10 1) Commit) ∷  -- 11
+  pub mail : reader_end.mail ≡ sent_so (two_votes_mail ++  -- 0 to 11
       to_all 3 (Client 2) (Get (exec_of 15 2) x1) ∷  -- 12 to 14
       one (Replica 1) (Client 2) (Note (version_at 15 2) x1 first_wid (pos 4) true None) ∷  -- 15
       to_all 3 (Warden 1) (Fence (version_at 20 0)) ∷  -- 16 to 18
