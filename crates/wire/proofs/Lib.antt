@@ -1,0 +1,10 @@
+pub mod Bytes
+pub mod Exact
+pub mod Making
+pub mod Counting
+pub mod Values
+pub mod Envelopes
+pub mod Sendable
+pub mod Decoding
+pub mod Items
+pub mod Lengths

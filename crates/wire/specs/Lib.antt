@@ -1,0 +1,9 @@
+pub mod Field
+pub mod Values
+pub mod Bodies
+pub mod Frame
+pub mod Outcome
+pub mod Sendable
+pub mod Wire
+pub mod Laws
+pub mod Lengths
