@@ -12,7 +12,7 @@ use Rattle.protocol_plans.specs.Scripted.{program_walk}
 use Rattle.net_core.specs.Fair.{IsFairRun}
 use Rattle.world.specs.Machine.{machine_of, machine_over, world_after}
 use Rattle.world.proofs.SameWorlds.{worlds_agree}
-use Rattle.net_core.proofs.AnswersDecide.{answers_decide}
+use Rattle.net_core.proofs.AnswersDecide.{fair_runs_agree}
 use Rattle.world.proofs.Replays.{histories_replay}
 use Rattle.world.specs.Rows.{rows_of}
 use Rattle.first_form.specs.declared.script.FirstScript.{FirstScript}
@@ -54,16 +54,16 @@ by_fit P s fits overflows = decide (sum_fits s) fits overflows
 done_fair : (s : FirstScript) → sum_fits s ≡ true → IsFairRun (machine_of (plan s)) turns (reverse done_journal) Quiet
 done_fair s fits =
     let worlds = world_in (done_worlds (setting s) (sum s)) in
-    answers_decide (machine_over (plan s) worlds) (machine_of (plan s)) (reverse done_journal) refl
+    (fair_runs_agree (machine_over (plan s) worlds) (machine_of (plan s)) (reverse done_journal) refl
     (worlds_agree (plan s) worlds (world_after (plan s)) (reverse done_journal) (done_worlds_follow (setting s) (sum s) (asks_in s) (writes_in s fits)))
-    turns Quiet (done_run (setting s) (sum s))
+    turns Quiet).0 (done_run (setting s) (sum s))
 
 overflow_fair : (s : FirstScript) → sum_fits s ≡ false → IsFairRun (machine_of (plan s)) turns (reverse overflow_journal) Quiet
 overflow_fair s fits =
     let worlds = world_in (overflow_worlds (setting s)) in
-    answers_decide (machine_over (plan s) worlds) (machine_of (plan s)) (reverse overflow_journal) refl
+    (fair_runs_agree (machine_over (plan s) worlds) (machine_of (plan s)) (reverse overflow_journal) refl
     (worlds_agree (plan s) worlds (world_after (plan s)) (reverse overflow_journal) (overflow_worlds_follow (setting s) (asks_in s) (overflows_in s fits)))
-    turns Quiet (overflow_run (setting s))
+    turns Quiet).0 (overflow_run (setting s))
 
 pub fair_run : (s : FirstScript) → IsFairRun (machine_of (plan s)) turns (reverse (journal_of s)) Quiet
 fair_run s = by_fit (λ b. IsFairRun (machine_of (plan s)) turns (reverse (cond b done_journal overflow_journal)) Quiet) s (done_fair s) (overflow_fair s)

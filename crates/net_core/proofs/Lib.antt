@@ -1,2 +1,3 @@
-pub mod Turns
+pub mod TurnOrder
+pub mod QuietOrDue
 pub mod AnswersDecide

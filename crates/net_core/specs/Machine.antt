@@ -1,7 +1,9 @@
 -- A machine that replays events, as its histories tell it.
 use Rattle.std.specs.Prelude.{ℕ, Bool, List, Option}
+use Rattle.std.specs.List.{list_any}
 use Rattle.morty_base.specs.declared.names.NodeId.{NodeId}
 use Rattle.morty_base.specs.declared.names.Exec.{Exec}
+use Rattle.morty_base.specs.Names.{same_node}
 use Rattle.msg.specs.declared.Event.{Event}
 
 -- the events so far, the newest first: the list before an event is then the tail
@@ -31,3 +33,7 @@ pub record Machine : Type 0 where
   pub live : History → NodeId → Bool
   pub pending : History → NodeId → Bool
   pub menu : History → NodeId → Menu
+
+-- the machine has the node
+abbrev pub has_node : Machine → NodeId → Bool
+has_node m n = list_any (same_node n) m.nodes

@@ -1,6 +1,5 @@
 -- Two ways to the worlds of a plan make machines that answer alike.
 use Rattle.std.proofs.Common.{◌≡◌, ap, [], ◌∷◌}
-use Rattle.protocol.specs.Words.{Event}
 use Rattle.net_core.specs.Machine.{History}
 use Rattle.net_core.specs.Laws.{SameAnswers, Agree}
 use Rattle.protocol.specs.World.State.{Plan, World, is_live}
@@ -14,9 +13,9 @@ SameWorlds f g (e ∷ h) = (f (e ∷ h) ≡ g (e ∷ h)) × SameWorlds f g h
 module _ (p : Plan) (f g : History → World) where
   answers_alike : (h : History) → f h ≡ g h → SameAnswers (machine_over p f) (machine_over p g) h
   answers_alike h same = record {
-    live = λ n. ap (λ (w : World). is_live p w n) same;
-    pending = λ n. ap (λ (w : World). is_pending w n) same;
-    menu = λ n. ap (λ (w : World). menu_in p w n) same;
+    live = λ n i. ap (λ (w : World). is_live p w n) same;
+    pending = λ n i. ap (λ (w : World). is_pending w n) same;
+    menu = λ n i. ap (λ (w : World). menu_in p w n) same;
   }
 
   this_moment : (h : History) → SameWorlds f g h → f h ≡ g h

@@ -1,4 +1,4 @@
-use Rattle.net_core.proofs.Turns as proved
+use Rattle.net_core.proofs.QuietOrDue as proved
 use Rattle.net_core.proofs.quiet_or_due.Goals as goal
 
 pub returns : goal.returns
