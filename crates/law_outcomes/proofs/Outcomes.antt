@@ -12,9 +12,9 @@ use Rattle.protocol.specs.World.Decided.{Committed}
 use Rattle.protocol.specs.World.Committed.{committed_executions}
 use Rattle.protocol_plans.specs.Scripted.{Scripted, plan_of}
 use Rattle.protocol.proofs.BasicLaws.{replays_join}
-use Rattle.law_safety.proofs.InvariantHolds.{agreement}
+use Rattle.law_safety.proofs.AgreementLaw.{agreement}
 use Rattle.law_safety.proofs.OneExecution.{one_execution}
-use Rattle.law_safety.proofs.CommittedList.{base_of_drop}
+use Rattle.law_safety.proofs.BaseOfDrop.{base_of_drop}
 use Rattle.protocol_plans.specs.SerialOutcome.{first_map, programs_of, map_of, IsSerial}
 use Rattle.law_serial.proofs.Serial.{serial_reads}
 use Rattle.law_serial.proofs.SerialBase.{drops_are_serial}

@@ -12,7 +12,7 @@ use Rattle.protocol.specs.Client.State.Phase.{Between, Running, Prepared}
 use Rattle.protocol.specs.Client.Attempts.{can_go, go, begin, tries_again, is_aborted, is_between, next_version, start_of}
 use Rattle.protocol.specs.World.State.{Plan, World, rules}
 use Rattle.protocol.proofs.TestLemmas.{and_right, lt_is}
-use Rattle.law_safety.proofs.OneExecution.{TryRec}
+use Rattle.law_steps.proofs.TryRec.{TryRec}
 use Rattle.law_progress.proofs.Stage.{InFirst, Stands}
 
 -- a client that goes begins the next try, or the next transaction

@@ -14,7 +14,7 @@ use Rattle.protocol.specs.Warden.Truncation.{take_fenced, finish}
 use Rattle.protocol.specs.World.State.{Plan, World, first_world, warden_rules}
 use Rattle.protocol.specs.World.Events.{to_all, parcel}
 use Rattle.protocol.proofs.ListsLemmas.{IsIn-cases, at_cases}
-use Rattle.law_steps.proofs.Induction.{from_to_all}
+use Rattle.law_steps.proofs.SendingLemmas.{from_to_all}
 use Rattle.law_steps.proofs.SaysLemmas.{spoken}
 use Rattle.law_progress.proofs.Steps.{Does, Takes, Acts, ClientAlone}
 use Rattle.law_progress.proofs.Steps.Does.{Nothing, Client_takes, Client_goes, Client_runs, Replica_takes, Warden_takes}

@@ -17,9 +17,11 @@ use Rattle.protocol.proofs.EventSteps.{after_happens}
 use Rattle.law_steps.proofs.ClientActs.{IsUnderWay}
 use Rattle.law_steps.proofs.Reach.{Reach, From, from_trans, events_reach, happens_reach}
 use Rattle.law_steps.proofs.Reach.From.{Begins, Next}
-use Rattle.law_safety.proofs.BaseOfDrop.{sent_later, sent_committed}
+use Rattle.law_safety.proofs.BaseOfDrop.{sent_later}
+use Rattle.law_safety.proofs.CommitIsSent.{sent_committed}
 use Rattle.law_safety.proofs.TruncationSettles.{CommitSent}
-use Rattle.law_safety.proofs.OneExecution.{try_rec, kept_attempt}
+use Rattle.law_steps.proofs.TryRec.{try_rec}
+use Rattle.law_safety.proofs.OneExecution.{kept_attempt}
 use Rattle.law_progress.specs.Apart.{IsNamed, IsApart}
 use Rattle.law_progress.specs.First.{HasBegun, IsFirstCommit}
 use Rattle.law_progress.specs.Undisturbed.{IsUndisturbed, IsSettled}

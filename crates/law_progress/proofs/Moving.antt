@@ -21,9 +21,10 @@ use Rattle.protocol.proofs.ListsLemmas.{IsIn-left, IsIn-right, IsIn-cases}
 use Rattle.protocol.proofs.EventSteps.{IsIn-get}
 use Rattle.law_steps.proofs.ClientActs.{IsRunning}
 use Rattle.law_steps.proofs.Reach.{Reach}
-use Rattle.law_steps.proofs.ClientFacts.{At, HasPrepared}
+use Rattle.law_steps.proofs.ClientFacts.{At, HasPrepared, not_at, running_prepared}
 use Rattle.law_safety.proofs.LocksLemmas.{voted_prepared}
-use Rattle.law_safety.proofs.OneProposal.{prepare_from, not_at, running_between, running_prepared}
+use Rattle.law_steps.proofs.Senders.{prepare_from}
+use Rattle.law_steps.proofs.PhaseLemmas.{running_between}
 use Rattle.law_safety.proofs.TruncationSettles.{CommitSent}
 use Rattle.law_progress.proofs.Calm.{IsCalm}
 use Rattle.law_progress.proofs.Steps.{Takes, Acts}

@@ -27,11 +27,11 @@ use Rattle.law_steps.proofs.Reach.From.{Begins, Next}
 use Rattle.law_steps.proofs.ClientFacts.{CFact, client_facts_reach, rec_reach}
 use Rattle.law_steps.proofs.VotesLemmas.{any_true}
 use Rattle.law_safety.proofs.OneContent.{contents_reach}
-use Rattle.law_safety.proofs.LocksStay.{Origin, origin}
-use Rattle.law_safety.proofs.LocksStay.Origin.{Old, Of_replica, Of_client, Of_warden}
-use Rattle.law_safety.proofs.OneExecution.{try_rec, kept_attempt}
-use Rattle.law_safety.proofs.HeldLemmas.{latest_is}
-use Rattle.law_safety.proofs.HeldLemmas.{HeldCase, kept_taken}
+use Rattle.law_steps.proofs.Origin.{Origin, origin}
+use Rattle.law_steps.proofs.Origin.Origin.{Old, Of_replica, Of_client, Of_warden}
+use Rattle.law_steps.proofs.TryRec.{try_rec}
+use Rattle.law_safety.proofs.OneExecution.{kept_attempt}
+use Rattle.law_safety.proofs.HeldLemmas.{latest_is, HeldCase, kept_taken}
 use Rattle.law_safety.proofs.HeldLemmas.HeldCase.{Is_first, Of_base, Of_commit, Of_put}
 use Rattle.law_safety.proofs.ContentsReplayed.{replayed}
 use Rattle.law_progress.specs.Apart.{HasReadOf, HasWriteOf, Names, IsNamed, IsApart}

@@ -27,7 +27,8 @@ use Rattle.law_steps.proofs.MailLemmas.{took_reach}
 use Rattle.law_steps.proofs.Reach.{Reach}
 use Rattle.law_steps.proofs.ClientFacts.{CFact, client_facts_reach, rec_reach}
 use Rattle.law_steps.proofs.VotesLemmas.{new_vote}
-use Rattle.law_safety.proofs.OneProposal.{prepare_from, earlier_itself}
+use Rattle.law_steps.proofs.Senders.{prepare_from}
+use Rattle.law_steps.proofs.ExecutionsLemmas.{earlier_itself}
 use Rattle.law_safety.proofs.TruncationSettles.{CommitSent}
 use Rattle.law_safety.proofs.ClientEvidence.{upto_in}
 use Rattle.law_safety.proofs.WardenEvidence.{decided_sent}

@@ -1,7 +1,7 @@
 -- What a replica voted and accepted, it said.
-use Rattle.std.proofs.Common.{◌≡◌, ℕ, inl, inr, refl, ap, sym, subst, true, false, Bool, cond, List, ◌∷◌, ◌++◌}
+use Rattle.std.proofs.Common.{◌≡◌, ℕ, inl, inr, refl, ap, sym, subst, true, false, Bool, cond, List, ◌∷◌, ◌++◌, ◌∙◌}
 use Rattle.std.specs.Prelude.{map}
-use Rattle.protocol.specs.Words.{Replica, Envelope, Body, Prepare, Finalize, Accepted, Voted}
+use Rattle.protocol.specs.Words.{Replica, Envelope, Body, Prepare, Finalize, Accepted, Voted, Exec, Vote}
 use Rattle.protocol.specs.Lists.{IsIn, one_when}
 use Rattle.protocol.specs.Replica.Taken.{Handled, takes, after_taking}
 use Rattle.protocol.specs.Replica.Acceptor.{Acceptance, acceptances, new_acceptance}
@@ -9,13 +9,17 @@ use Rattle.protocol.specs.Replica.Votes.{Cast, casts, new_cast}
 use Rattle.protocol.specs.declared.First2.{First2}
 use Rattle.protocol.specs.Replica.Says.{answer, refusal, says}
 use Rattle.protocol.specs.Replica.Readers.{due, envelope_from}
-use Rattle.protocol.specs.World.State.{Plan, World}
+use Rattle.protocol.specs.World.State.{Plan, World, first_world}
 use Rattle.protocol.specs.World.Decided.{WasSentBy}
 use Rattle.protocol.proofs.ListsLemmas.{IsIn-left, IsIn-right, IsIn-cases, IsIn-one_when, at_cases, map_in}
 use Rattle.law_steps.proofs.MailLemmas.{mail_grows}
-use Rattle.law_steps.proofs.Reach.{Step, Reach}
+use Rattle.law_steps.proofs.Reach.{Step, Reach, events_reach}
 use Rattle.law_steps.proofs.Reach.Step.{Stands, Client_acts, Replica_acts, Warden_acts}
 use Rattle.law_steps.proofs.Reach.From.{Begins, Next}
+use Rattle.law_steps.proofs.ReplicaFacts.{RFact, facts_reach}
+use Rattle.protocol.specs.World.Events.{replay_from}
+use Rattle.law_safety.specs.Invariants.{AnswersTell}
+use Rattle.law_safety.proofs.LocksLemmas.{cast_found}
 
 cast_answer : (firsts : List First2) (h : Handled) (b : Body) (c : Cast) → IsIn c (new_cast h (casts h) b) → IsIn (Voted c.exec c.vote) (answer firsts h b)
 unfolding answer
@@ -69,3 +73,12 @@ spoke_reach p _ (Next w w' q (Replica_acts s)) r = subst (λ (f : ℕ → Handle
     (at_cases (λ (h : Handled). Spoke w' r h) s.r (after_taking (w.replica s.r) s.m) w.replica r
     (λ e. subst (λ (j : ℕ). Spoke w' j (after_taking (w.replica s.r) s.m)) (sym e) (spoke_taking w' p.firsts s.r (w.replica s.r) s.m (λ m i. subst (λ (l : List Envelope). IsIn m l) (sym s.mail) (IsIn-right m w.mail _ i)) (spoke_grows p w w' (Replica_acts s) s.r _ (spoke_reach p w q s.r))))
     (spoke_grows p w w' (Replica_acts s) r _ (spoke_reach p w q r)))
+
+pub answers_tell : AnswersTell
+answers_tell p events r = let w = replay_from p first_world events in let q = events_reach p first_world first_world Begins events in record {
+  votes = λ x v e. let c = cast_found x (casts (w.replica r)) v e in let t = (spoke_reach p w q r).votes c.0 c.1 in
+      record { envelope = t.envelope; there = t.there; from = t.from; body = t.body ∙ ap (λ (y : Exec). Voted y c.0.vote) c.2 ∙ ap (λ (u : Vote). Voted x u) c.3 };
+  voted = λ x v t. subst (RFact r (w.replica r)) t.body ((facts_reach p w q).said t.envelope r t.there t.from);
+  accepts = λ a i. (spoke_reach p w q r).accepts a i;
+  accepted = λ x v t. subst (RFact r (w.replica r)) t.body ((facts_reach p w q).said t.envelope r t.there t.from);
+}

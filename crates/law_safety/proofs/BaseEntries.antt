@@ -1,4 +1,4 @@
-use Rattle.std.proofs.Common.{◌≡◌, ℕ, inl, inr, refl, ap, sym, ◌∙◌, subst, true, false, Bool, List, [], ◌∷◌, Option}
+use Rattle.std.proofs.Common.{◌≡◌, ℕ, inl, inr, refl, ap, sym, ◌∙◌, subst, true, false, Bool, List, [], ◌∷◌, Option, arith, ◌≤◌}
 use Rattle.std.specs.Prelude.{suc, ◌&&◌, ◌||◌}
 use Rattle.std.specs.List.{list_any}
 use Rattle.protocol.specs.Words.{Version, Exec, Key, Envelope, BaseEntry, Read, Write, Content, ToCommit, Prepare, Decide, Drops, no_version, before, same_key, wid_before, key_before}
@@ -8,14 +8,10 @@ use Rattle.protocol.specs.Replica.Votes.{conflicts, conflicts_with_base, misses,
 use Rattle.protocol.specs.Warden.Base.{entries_of}
 use Rattle.protocol.specs.World.State.{World}
 use Rattle.protocol.proofs.TestLemmas.{and_left, and_right}
-use Rattle.protocol.proofs.NamesLemmas.{key_is, key_itself}
-use Rattle.protocol.specs.World.Decided.{UpTo, WasSent}
+use Rattle.protocol.proofs.NamesLemmas.{key_is, key_itself, key_irreflexive}
+use Rattle.protocol.specs.World.Decided.{UpTo, WasSent, IsRising}
 use Rattle.law_steps.proofs.TakenLemmas.{before_then, then_before, true_false, before_up_to, before_self as self, dropped_taken}
 use Rattle.law_steps.proofs.VotesLemmas.{any_true, any_in}
-use Rattle.std.proofs.Common.{ap, subst, sym, ◌∙◌, arith, ℕ, ◌≤◌, inl, inr, List, ◌∷◌, [], true, ◌≡◌}
-use Rattle.std.specs.Prelude.{suc}
-use Rattle.protocol.proofs.NamesLemmas.{key_irreflexive}
-use Rattle.protocol.specs.World.Decided.{IsRising}
 
 -- an entry of the base for the key of e, whose write name is not below e's
 abbrev pub HasEntry : List BaseEntry → BaseEntry → Type 0

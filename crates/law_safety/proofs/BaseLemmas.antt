@@ -1,10 +1,11 @@
 -- A base that is put together holds for each key the write of the greatest name, and no other.
 use Rattle.std.proofs.Common.{[], ◌≡◌, ◌⊎◌, inl, inr, refl, ap, sym, ◌∙◌, subst, true, false, Bool, cond, List, ◌∷◌}
-use Rattle.protocol.specs.Words.{BaseEntry, same_key, key_before, wid_before}
+use Rattle.protocol.specs.Words.{BaseEntry, same_key, key_before, wid_before, Key}
 use Rattle.protocol.specs.Lists.{IsIn}
 use Rattle.protocol.specs.Warden.Base.{put_entry, put_entries}
-use Rattle.protocol.proofs.NamesLemmas.{key_is, wid_trans, wid_less, wid_itself}
+use Rattle.protocol.proofs.NamesLemmas.{key_is, wid_trans, wid_less, wid_itself, key_trans, key_order}
 use Rattle.law_safety.proofs.BaseEntries.{HasEntry}
+use Rattle.protocol.specs.World.Decided.{IsRising}
 
 -- the base that is put together holds each entry, or a greater one, and no other
 entry_self : (bs : List BaseEntry) (d : BaseEntry) → IsIn d bs → HasEntry bs d
@@ -62,3 +63,18 @@ put_of b (c ∷ cs) d i = go (put_of b cs d) (same_key b.key c.key) (wid_before 
 pub puts_of : (cs bs : List BaseEntry) (d : BaseEntry) → IsIn d (put_entries cs bs) → IsIn d cs ⊎ IsIn d bs
 puts_of cs [] d i = inl i
 puts_of cs (b ∷ bs) d i = elim (puts_of (put_entry b cs) bs d i) [ inl j ↦ elim (put_of b cs d j) [ inl z ↦ inr (inl z) | inr k ↦ inl k ] | inr j ↦ inr (inr j) ]
+
+-- the base that is put together is rising by key
+put_rising : (b : BaseEntry) (cs : List BaseEntry) → IsRising cs → IsRising (put_entry b cs)
+put_rising b [] r = (λ e i. absurd i, tt)
+put_rising b (c ∷ cs) r = go (put_rising b cs r.1) (same_key b.key c.key) refl (wid_before c.wid b.wid) (key_before b.key c.key) refl
+  where
+    go : IsRising (put_entry b cs) → (t : Bool) → same_key b.key c.key ≡ t → (u k : Bool) → key_before b.key c.key ≡ k → IsRising (cond t (cond u (b ∷ cs) (c ∷ cs)) (cond k (b ∷ c ∷ cs) (c ∷ put_entry b cs)))
+    go ih true e true k f = (λ d i. subst (λ (y : Key). key_before y d.key ≡ true) (sym (key_is b.key c.key e)) (r.0 d i), r.1)
+    go ih true e false k f = r
+    go ih false e u true f = (λ d i. elim i [ inl z ↦ subst (λ (y : BaseEntry). key_before b.key y.key ≡ true) (sym z) f | inr j ↦ key_trans b.key c.key d.key f (r.0 d j) ], r)
+    go ih false e u false f = (λ d i. elim (put_of b cs d i) [ inl z ↦ subst (λ (y : BaseEntry). key_before c.key y.key ≡ true) (sym z) (key_order b.key c.key e f) | inr j ↦ r.0 d j ], ih)
+
+pub puts_rising : (cs bs : List BaseEntry) → IsRising cs → IsRising (put_entries cs bs)
+puts_rising cs [] r = r
+puts_rising cs (b ∷ bs) r = puts_rising (put_entry b cs) bs (put_rising b cs r)

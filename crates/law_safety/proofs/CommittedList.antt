@@ -1,31 +1,27 @@
--- The list of the committed executions is what it says, and the base that is put together from it is that of the world.
+-- The list of the committed executions of a world is the one list that has each of them once.
 use Rattle.std.proofs.Common.{◌≡◌, ◌<◌, ◌⊎◌, inl, inr, refl, ap, sym, ◌∙◌, subst, true, false, Bool, cond, List, [], ◌∷◌, Option, Some, None, arith}
-use Rattle.std.specs.Prelude.{map, flat_map, find}
+use Rattle.std.specs.Prelude.{flat_map, find}
 use Rattle.std.proofs.lemmas.Bool.Decides.{nat_tests}
-use Rattle.protocol.specs.Words.{Exec, Version, Body, BaseEntry, Envelope, Content, Kept, Choice, Abandon, ToCommit, Prepare, before, same_version, same_exec, exec_before}
+use Rattle.protocol.specs.Words.{Exec, Version, Body, Envelope, Choice, Abandon, ToCommit, Prepare, before, same_version, same_exec, exec_before}
 use Rattle.morty_base.proofs.Orders.{exec_before_total}
 use Rattle.protocol.specs.Lists.{IsIn}
 use Rattle.protocol.specs.Client.State.{Attempt}
-use Rattle.protocol.specs.Warden.Base.{entries_of, kept_entries}
 use Rattle.protocol.specs.World.State.{Plan, World, first_world}
 use Rattle.protocol.specs.World.Events.{replay_from}
-use Rattle.protocol.specs.World.Decided.{decided_by, WasSent, Committed, IsOf, IsWrite, IsBase}
-use Rattle.protocol.specs.World.Committed.{nodes, is_commit_choice, is_committed, CommittedExec, put_committed, sorted_committed, attempt_at, of_attempt, committed_in, committed_executions, kept_of, base_at}
-use Rattle.law_safety.specs.Bases.{BaseOfDrop}
-use Rattle.law_safety.specs.Outcome.{IsRisingByExec, IsCommittedAs, IsCommittedList, CommittedList, BaseAt}
+use Rattle.protocol.specs.World.Decided.{decided_by, WasSent, Committed, IsOf}
+use Rattle.protocol.specs.World.Committed.{nodes, is_commit_choice, is_committed, CommittedExec, put_committed, sorted_committed, attempt_at, of_attempt, committed_in, committed_executions}
+use Rattle.law_safety.proofs.OneContent.{same_prepared}
+use Rattle.law_safety.specs.Outcome.{IsRisingByExec, IsCommittedAs, IsCommittedList, CommittedList}
 use Rattle.protocol.proofs.NamesLemmas.{exec_is, same_version_tells}
-use Rattle.protocol.proofs.ListsLemmas.{map_in, flat_map_in, IsIn-map, IsIn-flat_map}
+use Rattle.protocol.proofs.ListsLemmas.{flat_map_in, IsIn-flat_map}
 use Rattle.law_steps.proofs.TakenLemmas.{true_false}
 use Rattle.law_steps.proofs.VotesLemmas.{any_true, any_in}
 use Rattle.law_steps.proofs.Reach.{Reach, events_reach}
 use Rattle.law_steps.proofs.Reach.From.{Begins}
-use Rattle.law_safety.proofs.TruncationSettles.{one_content}
-use Rattle.law_safety.proofs.BaseLemmas.{puts_hold, puts_of}
-use Rattle.law_safety.proofs.InvariantHolds.{safe_reach}
-use Rattle.law_safety.proofs.BaseOfDrop.{committed_sent, puts_rising, drop_kept}
-use Rattle.law_safety.proofs.OneExecution.{committed_prepared, tried, one_attempt}
+use Rattle.law_safety.proofs.CommitIsSent.{committed_sent}
+use Rattle.law_safety.proofs.OneExecution.{committed_prepared}
+use Rattle.law_safety.proofs.OneTry.{tried, one_attempt}
 use Rattle.law_safety.proofs.RisingLemmas.{IsStrict, same_members}
-use Rattle.law_safety.proofs.BaseIsOne.{base_one}
 use Rattle.law_safety.proofs.Absent.{decider}
 
 -- the order of executions
@@ -147,13 +143,13 @@ module _ (p : Plan) (pos : 0 < p.replicas) (w : World) (q : Reach p w) where
       go false e o f i = absurd i
   told_by _ t c i = absurd i
 
-  listed_only : (c : CommittedExec) → IsIn c (committed_executions p w) → IsCommittedAs w c
+  pub listed_only : (c : CommittedExec) → IsIn c (committed_executions p w) → IsCommittedAs w c
   unfolding committed_executions
   listed_only c i =
       let m = IsIn-flat_map (λ (m : Envelope). committed_in p w m.body) c w.mail (sorted_from c (flat_map (λ (m : Envelope). committed_in p w m.body) w.mail) i) in
       told_by m.0.body (record { envelope = m.0; there = m.1; body = refl }) c m.2
 
-  listed_all : (x : Exec) → Committed w x → (c : CommittedExec) × IsIn c (committed_executions p w) × (c.exec ≡ x)
+  pub listed_all : (x : Exec) → Committed w x → (c : CommittedExec) × IsIn c (committed_executions p w) × (c.exec ≡ x)
   unfolding committed_executions Lists
   listed_all x c =
       let k = committed_prepared p pos w q x (committed_sent p pos w q x c) in
@@ -175,7 +171,7 @@ module _ (p : Plan) (pos : 0 < p.replicas) (w : World) (q : Reach p w) where
   -- a committed execution has one content, one transaction and one try
   as_one : (c d : CommittedExec) → IsCommittedAs w c → IsCommittedAs w d → c.exec ≡ d.exec → c ≡ d
   as_one c d i j e =
-      let k : c.content ≡ d.content = one_content p pos w q (safe_reach p pos w q) d.exec c.content d.content (subst (λ (x : Exec). WasSent w (Prepare x c.content)) e i.prepared) j.prepared in
+      let k : c.content ≡ d.content = same_prepared p w q d.exec c.content d.content (subst (λ (x : Exec). WasSent w (Prepare x c.content)) e i.prepared) j.prepared in
       let a : i.attempt ≡ j.attempt = one_attempt p pos w q d.exec i.attempt j.attempt (subst (λ (x : Exec). IsOf w x i.attempt) e i.of_attempt) j.of_attempt in
       let n = i.txn ∙ ap (λ (y : Attempt). y.txn) a ∙ sym j.txn in
       let t = i.try ∙ ap (λ (y : Attempt). y.try) a ∙ sym j.try in
@@ -189,51 +185,6 @@ module _ (p : Plan) (pos : 0 < p.replicas) (w : World) (q : Reach p w) where
   listed_one : (cs : List CommittedExec) → IsCommittedList w cs → cs ≡ committed_executions p w
   listed_one cs a = same_members (λ (c d : CommittedExec). exec_before c.exec d.exec) execs_strict cs (committed_executions p w) a.rising listed_rising (listed_in cs (committed_executions p w) a listed) (listed_in (committed_executions p w) cs listed a)
 
-  -- the entries of the committed contents at or below a version
-  abbrev Entries : Version → List BaseEntry
-  Entries v = kept_entries v (map kept_of (committed_executions p w))
-
-  entry_written : (v : Version) (d : BaseEntry) → IsIn d (Entries v) → IsWrite w v d
-  entry_written v d i =
-      let k = IsIn-flat_map (λ (k : Kept). cond (before v k.exec.ver) [] (entries_of k.exec 1 k.content.writes)) d (map kept_of (committed_executions p w)) i in
-      let c = IsIn-map kept_of k.0 (committed_executions p w) k.1 in
-      go c.0 (listed_only c.0 c.1) (before v c.0.exec.ver) refl (subst (λ (y : Kept). IsIn d (cond (before v y.exec.ver) [] (entries_of y.exec 1 y.content.writes))) c.2 k.2)
-    where
-      go : (c : CommittedExec) → IsCommittedAs w c → (z : Bool) → before v c.exec.ver ≡ z → IsIn d (cond z [] (entries_of c.exec 1 c.content.writes)) → IsWrite w v d
-      go c a true e j = absurd j
-      go c a false e j = record { exec = c.exec; content = c.content; committed = a.committed; prepared = a.prepared; upto = e; entry = j }
-
-  written_entry : (v : Version) (d : BaseEntry) → IsWrite w v d → IsIn d (Entries v)
-  written_entry v d y =
-      let c = listed_all y.exec y.committed in
-      let a = listed_only c.0 c.1 in
-      let k : y.content ≡ c.0.content = one_content p pos w q (safe_reach p pos w q) y.exec y.content c.0.content y.prepared (subst (λ (x : Exec). WasSent w (Prepare x c.0.content)) c.2 a.prepared) in
-      let j : IsIn d (entries_of c.0.exec 1 c.0.content.writes) = subst (λ (l : Content). IsIn d (entries_of c.0.exec 1 l.writes)) k (subst (λ (x : Exec). IsIn d (entries_of x 1 y.content.writes)) (sym c.2) y.entry) in
-      let low : before v c.0.exec.ver ≡ false = subst (λ (x : Exec). before v x.ver ≡ false) (sym c.2) y.upto in
-      flat_map_in (λ (k : Kept). cond (before v k.exec.ver) [] (entries_of k.exec 1 k.content.writes)) (map kept_of (committed_executions p w)) (kept_of c.0) d (map_in kept_of (committed_executions p w) c.0 c.1)
-      (subst (λ (z : Bool). IsIn d (cond z [] (entries_of c.0.exec 1 c.0.content.writes))) (sym low) j)
-
-  pub base_is : (v : Version) → IsBase w v (base_at p w v)
-  unfolding base_at
-  base_is v = record {
-    rising = puts_rising [] (Entries v) tt;
-    only = λ d i. elim (puts_of [] (Entries v) d i) [ inl j ↦ absurd j | inr j ↦ entry_written v d j ];
-    greatest = λ d y. puts_hold [] (Entries v) d (written_entry v d y);
-  }
-
 pub committed_list : CommittedList
 committed_list p pos events = let w = replay_from p first_world events in let q = events_reach p first_world first_world Begins events in
     record { holds = listed p pos w q; one = listed_one p pos w q }
-
-pub base_at_is : BaseAt
-base_at_is p pos events v = let w = replay_from p first_world events in let q = events_reach p first_world first_world Begins events in
-    record { holds = base_is p pos w q v; one = λ bs b. base_one p pos w q v bs (base_at p w v) b (base_is p pos w q v) }
-
-pub base_of_drop : BaseOfDrop
-base_of_drop p pos events more v bs t =
-    let w = replay_from p first_world events in
-    let w' = replay_from p w more in
-    let q = events_reach p first_world first_world Begins events in
-    let q' = events_reach p first_world w q more in
-    let h = drop_kept p pos w w' q (events_reach p w w Begins more) q' v bs t in
-    (base_one p pos w q v bs (base_at p w v) h.0 (base_is p pos w q v), base_one p pos w' q' v bs (base_at p w' v) h.1 (base_is p pos w' q' v), h.2)

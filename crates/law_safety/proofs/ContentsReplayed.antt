@@ -11,9 +11,10 @@ use Rattle.law_steps.proofs.PhaseLemmas.{running_under_way}
 use Rattle.law_steps.proofs.Reach.{Reach, events_reach}
 use Rattle.law_steps.proofs.Reach.From.{Begins, Next}
 use Rattle.law_steps.proofs.ClientFacts.{rec_reach}
-use Rattle.law_safety.proofs.LocksStay.{Origin, origin}
-use Rattle.law_safety.proofs.LocksStay.Origin.{Old, Of_replica, Of_client, Of_warden}
-use Rattle.law_safety.proofs.OneExecution.{try_rec, kept_attempt}
+use Rattle.law_steps.proofs.Origin.{Origin, origin}
+use Rattle.law_steps.proofs.Origin.Origin.{Old, Of_replica, Of_client, Of_warden}
+use Rattle.law_steps.proofs.TryRec.{try_rec}
+use Rattle.law_safety.proofs.OneExecution.{kept_attempt}
 
 -- the content that a client prepares
 content_replay : (p : Plan) (c : ClientState) (x : Exec) (a : Attempt) (e : Ending) (k : Content) → c.begun ≡ a.txn → (walk (rules p x.ver.client) c).ending ≡ Some e → k ≡ content (rules p x.ver.client) c e → IsReplay p x a k

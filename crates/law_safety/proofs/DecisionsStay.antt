@@ -21,8 +21,8 @@ use Rattle.law_safety.specs.Agreement.{DecisionsStay}
 use Rattle.law_safety.proofs.LocksLemmas.{replica_grows, sent_grows}
 use Rattle.law_safety.proofs.LocksStay.{decision_grows}
 use Rattle.law_safety.proofs.TruncationSettles.{apart_locks}
-use Rattle.law_safety.proofs.InvariantHolds.{safe_reach, decided_by_sent}
-use Rattle.law_safety.proofs.BaseOfDrop.{find_in}
+use Rattle.law_safety.proofs.InvariantHolds.{safe_reach}
+use Rattle.law_safety.proofs.CommitIsSent.{decided_by_sent, find_in}
 
 -- what a warden decided stays
 ward_decision_grows : (p : Plan) (w w' : World) → Reach p w → Step p w w' → (k : ℕ) (x : Exec) (d : Choice) (o : Option Content) → IsIn (record { exec = x; proposal = record { choice = d; content = o } }) (w.warden k).decisions → IsIn (record { exec = x; proposal = record { choice = d; content = o } }) (w'.warden k).decisions

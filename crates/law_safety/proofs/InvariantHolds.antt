@@ -1,24 +1,21 @@
-use Rattle.std.proofs.Common.{◌≡◌, ℕ, ◌<◌, ◌⊎◌, ◌≢◌, inl, inr, refl, sym, ◌∙◌, subst, true, false, Bool, cond, List, ◌∷◌, Option, Some}
-use Rattle.std.specs.List.{find, list_any}
-use Rattle.protocol.specs.Words.{Exec, Version, NodeId, Client, Replica, Warden, Envelope, Body, Content, Kept, Commit, Final, Choice, Abandon, ToCommit, Prepare, Decide, Drops, no_version, before, same_exec, BaseEntry}
+-- The one induction over the small steps of a world, which carries what all laws on decisions need.
+use Rattle.std.proofs.Common.{◌≡◌, ℕ, ◌<◌, ◌⊎◌, inl, inr, refl, sym, ◌∙◌, subst, true, false, Bool, cond, List, ◌∷◌, Option, Some}
+use Rattle.std.specs.List.{list_any}
+use Rattle.protocol.specs.Words.{Exec, Version, Envelope, Body, Content, Kept, Commit, Final, Abandon, ToCommit, Prepare, Decide, Drops, no_version, before, BaseEntry}
 use Rattle.protocol.specs.Lists.{IsIn}
 use Rattle.protocol.specs.Replica.Taken.{Handled, takes, after_taking, dropped, is_above, version_of, base}
 use Rattle.protocol.specs.Replica.Acceptor.{decided, commits}
 use Rattle.protocol.specs.Replica.Votes.{casts, new_cast, verdict, vote, Cast, conflicts, conflicts_with_base}
-use Rattle.protocol.specs.Client.State.{Decision}
-use Rattle.protocol.specs.Warden.State.{DecidedProposal, decision_on}
-use Rattle.protocol.specs.World.State.{Plan, World, first_world, rules, warden_rules}
-use Rattle.protocol.specs.World.Events.{replay_from}
-use Rattle.protocol.specs.World.Decided.{decided_by, WasSent, UpTo}
-use Rattle.law_safety.specs.Agreement.{Agreement, NoConflict}
+use Rattle.protocol.specs.World.State.{Plan, World, rules, warden_rules}
+use Rattle.protocol.specs.World.Decided.{WasSent, UpTo}
+use Rattle.law_safety.proofs.OneContent.{same_prepared}
 use Rattle.protocol.proofs.ReplicaGrows.{decided_stays}
 use Rattle.protocol.proofs.ListsLemmas.{IsIn-cases, at_cases}
 use Rattle.protocol.specs.Quorums.{Quorum}
 use Rattle.protocol.proofs.QuorumsLemmas.{quorums_meet}
-use Rattle.law_steps.proofs.KnownLemmas.{mapped_some, found}
 use Rattle.law_steps.proofs.VotesLemmas.{new_vote, verdict_commit, earlier_settled, final_conflict, conflicts_both_ways, no_conflict_alike}
 use Rattle.law_steps.proofs.MailLemmas.{took_reach}
-use Rattle.law_steps.proofs.Reach.{Step, Reach, events_reach, GotAt, HeardAt}
+use Rattle.law_steps.proofs.Reach.{Step, Reach, GotAt, HeardAt}
 use Rattle.law_steps.proofs.Reach.Step.{Stands, Client_acts, Replica_acts, Warden_acts}
 use Rattle.law_steps.proofs.Reach.From.{Begins, Next}
 use Rattle.law_steps.proofs.ReplicaFacts.{well_reach, taking_reach}
@@ -27,22 +24,22 @@ use Rattle.law_safety.specs.Locks.{VotedCommit, Shut, AbandonLock}
 use Rattle.law_safety.proofs.LocksLemmas.{locks_clash, cast_found, sent_grows, voted_prepared}
 use Rattle.law_safety.specs.Locks.Shut.{Conflicting}
 use Rattle.law_safety.specs.Locks.AbandonLock.{All_shut}
-use Rattle.law_safety.proofs.LocksStay.{CommitGround, abandon_lock_stays, Origin, origin, cast_sent}
-use Rattle.law_safety.proofs.ClientEvidence.{decisions_reach}
-use Rattle.law_safety.proofs.WardenEvidence.{ward_reach, decided_sent}
-use Rattle.law_safety.proofs.ChoiceOfTolds.{Safe}
+use Rattle.law_safety.proofs.LocksStay.{CommitGround, abandon_lock_stays, cast_sent}
+use Rattle.law_steps.proofs.Origin.{Origin, origin}
+use Rattle.law_safety.proofs.WardenEvidence.{decided_sent}
+use Rattle.law_safety.proofs.Invariant.{Safe}
 use Rattle.law_safety.proofs.InvariantStep.{proposals_step, abandoned_step, committed_step}
 use Rattle.protocol.specs.Warden.Base.{entries_of}
-use Rattle.law_safety.proofs.LocksStay.Origin.{Old, Of_replica, Of_client, Of_warden}
+use Rattle.law_steps.proofs.Origin.Origin.{Old, Of_replica, Of_client, Of_warden}
 use Rattle.law_steps.proofs.TakenLemmas.{takes_above, cast_is, cast_above_none, dropped_taken, no_base}
 use Rattle.law_safety.proofs.BaseEntries.{HasEntry, Written, entry_conflict, dropped_conflict, dropped_sent}
 use Rattle.law_safety.proofs.ShapedBodies.{commit_sent, client_no_drop, ward_dropped}
-use Rattle.law_safety.proofs.TruncationSettles.{one_content, commit_prepared, apart_locks, CommitSent, each_or, is_commit, cut_now, base_holds, base_written}
+use Rattle.law_safety.proofs.TruncationSettles.{commit_prepared, apart_locks, CommitSent, each_or, is_commit, cut_now, base_holds, base_written}
 
 module _ (p : Plan) (pos : 0 < p.replicas) where
   -- the content of a commit is that of the cast
   same_content : (w : World) (q : Reach p w) → (s : Safe p.replicas w) → (r : ℕ) (c : Cast) → IsIn c (casts (w.replica r)) → (l : Kept) → IsIn l (commits (w.replica r)) → l.exec ≡ c.exec → l.content ≡ c.content
-  same_content w q s r c i l j e = one_content p pos w q s c.exec l.content c.content
+  same_content w q s r c i l j e = same_prepared p w q c.exec l.content c.content
       (subst (λ (y : Exec). WasSent w (Prepare y l.content)) e (commit_prepared p pos w q s r l j)) (cast_sent p w q r c i)
 
   pub commit_ground : (w : World) → Reach p w → Safe p.replicas w → CommitGround w
@@ -120,7 +117,7 @@ module _ (p : Plan) (pos : 0 < p.replicas) where
   AllTwo w = (r : ℕ) → IsTwo (w.replica r)
 
   -- a conflict with something committed locks Abandon
-  conflict_locks : (w : World) (q : Reach p w) → Safe p.replicas w → AllTwo w → (x : Exec) (k : Content) → WasSent w (Prepare x k) → (y : Exec) (l : Content) → CommitSent w y → WasSent w (Prepare y l) → conflicts x.ver k y.ver l ≡ true → AbandonLock p.replicas w x
+  pub conflict_locks : (w : World) (q : Reach p w) → Safe p.replicas w → AllTwo w → (x : Exec) (k : Content) → WasSent w (Prepare x k) → (y : Exec) (l : Content) → CommitSent w y → WasSent w (Prepare y l) → conflicts x.ver k y.ver l ≡ true → AbandonLock p.replicas w x
   conflict_locks w q s two x k t y l cy pr f =
       elim (each_or (Shut w x) (AbandonLock p.replicas w x) voters.members (λ u j. member u (voters.each u j))) [
         | inl g ↦ All_shut (record { members = voters.members; distinct = voters.distinct; ranged = voters.ranged; each = g; many = voters.many })
@@ -133,13 +130,13 @@ module _ (p : Plan) (pos : 0 < p.replicas) where
       member : (u : ℕ) → VotedCommit w y u → Shut w x u ⊎ AbandonLock p.replicas w x
       member u v =
           let c = cast_found y (casts (w.replica u)) Commit v in
-          let same : l ≡ c.0.content = one_content p pos w q s y l c.0.content pr (subst (λ (z : Exec). WasSent w (Prepare z c.0.content)) c.2 (cast_sent p w q u c.0 c.1)) in
+          let same : l ≡ c.0.content = same_prepared p w q y l c.0.content pr (subst (λ (z : Exec). WasSent w (Prepare z c.0.content)) c.2 (cast_sent p w q u c.0 c.1)) in
           let g : conflicts x.ver k c.0.exec.ver c.0.content ≡ true = subst (λ (z : Content). conflicts x.ver k c.0.exec.ver z ≡ true) same (subst (λ (z : Exec). conflicts x.ver k z.ver l ≡ true) (sym c.2) f) in
           elim (is_commit (vote (w.replica u) x)) [
             | inr n ↦ inl (Conflicting n k t c.0 c.1 c.3 g cy.0 (subst (λ (z : Exec). WasSent w (Decide z ToCommit cy.0)) (sym c.2) cy.1))
             | inl e ↦
                 let d = cast_found x (casts (w.replica u)) Commit e in
-                let mine : k ≡ d.0.content = one_content p pos w q s x k d.0.content t (subst (λ (z : Exec). WasSent w (Prepare z d.0.content)) d.2 (cast_sent p w q u d.0 d.1)) in
+                let mine : k ≡ d.0.content = same_prepared p w q x k d.0.content t (subst (λ (z : Exec). WasSent w (Prepare z d.0.content)) d.2 (cast_sent p w q u d.0 d.1)) in
                 let h : conflicts d.0.exec.ver d.0.content c.0.exec.ver c.0.content ≡ true = subst (λ (z : Content). conflicts d.0.exec.ver z c.0.exec.ver c.0.content ≡ true) mine (subst (λ (z : Exec). conflicts z.ver k c.0.exec.ver c.0.content ≡ true) (sym d.2) g) in
                 elim (two_locked w q s u d.0 c.0 d.1 c.1 h (two u d.0 c.0 d.1 c.1 d.3 c.3 h)) [
                   | inl z ↦ inr (subst (λ (z : Exec). AbandonLock p.replicas w z) d.2 z)
@@ -265,36 +262,3 @@ module _ (p : Plan) (pos : 0 < p.replicas) where
 
   pub safe_reach : (w : World) → Reach p w → Safe p.replicas w
   safe_reach w q = (both_reach w q).0
-
-  -- what a node decided was sent
-  pub decided_by_sent : (w : World) → Reach p w → (n : NodeId) (x : Exec) (d : Choice) → decided_by w n x ≡ Some d → (o : Option Content) × WasSent w (Decide x d o)
-  decided_by_sent w q (Client c) x d e = let f = mapped_some (λ (y : Decision). y.choice) (find (λ (y : Decision). same_exec x y.exec) (w.client c).decisions) d e in
-      let i = found (λ (y : Decision). y.exec) x (w.client c).decisions f.0 f.1 in
-      let s = (decisions_reach p pos w q c).sent f.0 i.0 in
-      (s.0, subst (λ (y : Exec). WasSent w (Decide y d s.0)) i.1 (subst (λ (y : Choice). WasSent w (Decide f.0.exec y s.0)) f.2 s.1))
-  decided_by_sent w q (Replica r) x d e = decided_sent p w q x d r e
-  decided_by_sent w q (Warden k) x d e = let f = mapped_some (λ (y : DecidedProposal). y.proposal.choice) (decision_on (w.warden k) x) d e in
-      let i = found (λ (y : DecidedProposal). y.exec) x (w.warden k).decisions f.0 f.1 in
-      let s = (ward_reach p pos w q k).decision f.0 i.0 in
-      (f.0.proposal.content, subst (λ (y : Exec). WasSent w (Decide y d f.0.proposal.content)) i.1 (subst (λ (y : Choice). WasSent w (Decide f.0.exec y f.0.proposal.content)) f.2 s))
-
-  agreed : (w : World) → Reach p w → (x : Exec) (a b : NodeId) → decided_by w a x ≡ Some Abandon → decided_by w b x ≢ Some ToCommit
-  agreed w q x a b e f = let s = safe_reach w q in let d = decided_by_sent w q a x Abandon e in let c = decided_by_sent w q b x ToCommit f in
-      locks_clash p w q s.proposals x (s.abandoned x d.0 d.1) (s.committed x c.0 c.1).0
-
-  -- two committed executions are not in conflict
-  apart : (w : World) (q : Reach p w) → (x y : Exec) (k l : Content) → CommitSent w x → CommitSent w y → WasSent w (Prepare x k) → WasSent w (Prepare y l) → conflicts x.ver k y.ver l ≡ false
-  apart w q x y k l a b t u = go (conflicts x.ver k y.ver l) refl
-    where
-      go : (z : Bool) → conflicts x.ver k y.ver l ≡ z → z ≡ false
-      go false f = refl
-      go true f = let s = (both_reach w q).0 in absurd (apart_locks p pos w q s x (conflict_locks w q s (both_reach w q).1 x k t y l b u f) a)
-
-  committed_apart : (w : World) → Reach p w → (x y : Exec) (a b : NodeId) (k l : Content) (e f : Envelope) → decided_by w a x ≡ Some ToCommit → decided_by w b y ≡ Some ToCommit → IsIn e w.mail → e.body ≡ Prepare x k → IsIn f w.mail → f.body ≡ Prepare y l → conflicts x.ver k y.ver l ≡ false
-  committed_apart w q x y a b k l e f c d i g j h = apart w q x y k l (decided_by_sent w q a x ToCommit c) (decided_by_sent w q b y ToCommit d) (record { envelope = e; there = i; body = g }) (record { envelope = f; there = j; body = h })
-
-pub agreement : Agreement
-agreement p pos events x a b = agreed p pos (replay_from p first_world events) (events_reach p first_world first_world Begins events) x a b
-
-pub no_conflict : NoConflict
-no_conflict p pos events x y a b k l e f = committed_apart p pos (replay_from p first_world events) (events_reach p first_world first_world Begins events) x y a b k l e f

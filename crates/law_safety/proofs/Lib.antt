@@ -5,7 +5,6 @@ pub mod LocksStay
 pub mod ClientEvidence
 pub mod WardenEvidence
 pub mod ChoiceOfTolds
-pub mod ClientSent
 pub mod CountedQuorums
 pub mod WardenSent
 pub mod InvariantStep
@@ -17,7 +16,6 @@ pub mod InvariantHolds
 pub mod BaseOfDrop
 pub mod OneExecution
 pub mod AnswersTell
-pub mod Invariants
 pub mod RisingLemmas
 pub mod BaseIsOne
 pub mod Absent
@@ -25,3 +23,16 @@ pub mod CommittedList
 pub mod DecisionsStay
 pub mod HeldLemmas
 pub mod ContentsReplayed
+pub mod AgreementLaw
+pub mod NoConflict
+pub mod CommitIsSent
+pub mod DropSettles
+pub mod FenceNames
+pub mod TwoVotes
+pub mod BaseOfWorld
+pub mod CommitNeedsVotes
+pub mod AbandonProposals
+pub mod ViewsLaw
+pub mod LocksHold
+pub mod Invariant
+pub mod OneTry

@@ -1,27 +1,24 @@
 use Rattle.std.proofs.Common.{◌≡◌, ℕ, ◌<◌, ◌≤◌, ◌+◌, ◌*◌, ◌≢◌, inl, inr, refl, sym, ◌∙◌, subst, true, false, Bool, cond, List, ◌∷◌, Option, Some, None, arith}
 use Rattle.std.specs.Prelude.{◌==◌}
 use Rattle.std.specs.Option.{is_none}
-use Rattle.protocol.specs.Words.{Exec, Client, Warden, Envelope, Body, Content, Commit, Choice, Abandon, ToCommit, Prepare, Finalize, Decide, Kept}
+use Rattle.protocol.specs.Words.{Exec, Envelope, Body, Content, Commit, Choice, Abandon, ToCommit, Prepare, Finalize, Decide, Kept}
 use Rattle.protocol.specs.Lists.{IsIn}
 use Rattle.protocol.specs.Replica.Taken.{Handled, takes, after_taking, dropped, fence, fenced_by, is_above, version_of}
 use Rattle.protocol.specs.Replica.Acceptor.{promised, Acceptance, acceptances, new_acceptance, decided, commits}
 use Rattle.protocol.specs.Replica.Votes.{casts, cast_on, new_cast, vote, Cast, may_vote, verdict, conflicts}
 use Rattle.protocol.specs.Client.State.{ClientState}
 use Rattle.protocol.specs.Client.State.Phase.{Between}
-use Rattle.protocol.specs.Warden.State.{Parcel}
 use Rattle.protocol.specs.World.State.{Plan, World, rules}
 use Rattle.protocol.proofs.TestLemmas.{and_right, some_not_none}
 use Rattle.protocol.proofs.ReplicaGrows.{decided_stays, promised_grows}
 use Rattle.protocol.proofs.ListsLemmas.{IsIn-right, IsIn-cases, at_cases}
 use Rattle.law_steps.proofs.AcceptorLemmas.{vote_stands, vote_frozen, new_acceptance_is}
-use Rattle.law_steps.proofs.SaysLemmas.{spoken}
-use Rattle.law_steps.proofs.PhaseLemmas.{running_under_way}
+use Rattle.law_steps.proofs.PhaseLemmas.{running_under_way, open_under, running_between, open_between}
 use Rattle.law_steps.specs.Executions.{IsEarlier, Over}
-use Rattle.law_steps.proofs.Reach.{Step, Reach, ByClientAct, ByWardenAct, GotAt}
+use Rattle.law_steps.proofs.Reach.{Step, Reach, GotAt}
 use Rattle.law_steps.proofs.Reach.Step.{Stands, Client_acts, Replica_acts, Warden_acts}
 use Rattle.law_steps.proofs.Reach.From.{Next}
-use Rattle.law_steps.proofs.Induction.{from_to_all, from_parcels, parcel_body}
-use Rattle.law_steps.proofs.ReplicaFacts.{RFact, facts_reach, well_reach, taking_reach}
+use Rattle.law_steps.proofs.ReplicaFacts.{well_reach, taking_reach}
 use Rattle.law_steps.proofs.VotesLemmas.{new_vote, verdict_commit, earlier_settled}
 use Rattle.law_safety.proofs.WardenEvidence.{decided_sent}
 use Rattle.law_steps.proofs.MailLemmas.{took_reach}
@@ -29,35 +26,17 @@ use Rattle.protocol.specs.World.Decided.{UpTo, WasSent}
 use Rattle.law_steps.proofs.TakenLemmas.{up_to_trans, later_left, true_false, takes_above, cast_above_none}
 use Rattle.law_safety.proofs.BaseEntries.{Bases, dropped_conflict}
 use Rattle.law_steps.proofs.ClientFacts.{act_over, rec_reach, said_stays}
-use Rattle.law_steps.proofs.WardenFacts.{WFact, ward_facts_reach}
-use Rattle.law_safety.proofs.OneProposal.{open_under, sent_prepare, sent_finalize, one_reach, running_between, open_between, earlier_itself, warden_view}
+use Rattle.law_steps.proofs.ClientSent.{sent_prepare, sent_finalize}
+use Rattle.law_safety.proofs.OneProposal.{one_reach}
+use Rattle.law_steps.proofs.ExecutionsLemmas.{earlier_itself}
+use Rattle.law_steps.proofs.Senders.{warden_view}
 use Rattle.law_safety.proofs.LocksLemmas.{sent_grows, Closed, replica_grows, voted_grows, accepted_grows, quorum_map, cast_prepare}
 use Rattle.law_safety.specs.Locks.{Shut, AbandonLock, CommitLock}
 use Rattle.law_safety.specs.Locks.Shut.{Voted_other, Has_promised, Has_decided, Fenced_out, Unsent, Conflicting}
 use Rattle.law_safety.specs.Locks.AbandonLock.{Accepted_abandon, All_shut}
 use Rattle.law_safety.specs.Locks.CommitLock.{Accepted_commit, Fast}
-
--- a body in the mail after a step is old, or was sent in it
-pub data Origin (p : Plan) (w w' : World) (b : Body) : Type 0 where
-  Old : WasSent w b → Origin p w w' b
-  Of_replica : (r : ℕ) → RFact r (w'.replica r) b → Origin p w w' b
-  Of_client : (s : ByClientAct p w w') → IsIn b s.sent → Origin p w w' b
-  Of_warden : (s : ByWardenAct p w w') (a : Parcel) → IsIn a s.sent → b ≡ parcel_body a → WFact p.wardens s.k (w'.warden s.k) b → Origin p w w' b
-
-pub origin : (p : Plan) (w w' : World) → Reach p w → Step p w w' → (b : Body) → WasSent w' b → Origin p w w' b
-origin p w w' q (Stands s) b t = Old (record { envelope = t.envelope; there = rw s.mail at t.there; body = t.body })
-origin p w w' q (Client_acts s) b t = elim (IsIn-cases t.envelope w.mail _ (rw s.mail at t.there)) [
-  | inl i ↦ Old (record { envelope = t.envelope; there = i; body = t.body })
-  | inr i ↦ Of_client s (subst (λ z. IsIn z s.sent) t.body (from_to_all p.replicas (Client s.c) s.sent t.envelope i).1)
-]
-origin p w w' q (Replica_acts s) b t = elim (IsIn-cases t.envelope w.mail _ (rw s.mail at t.there)) [
-  | inl i ↦ Old (record { envelope = t.envelope; there = i; body = t.body })
-  | inr i ↦ Of_replica s.r (subst (RFact s.r (w'.replica s.r)) t.body ((facts_reach p w' (Next w w' q (Replica_acts s))).said t.envelope s.r t.there (spoken p.firsts s.r (w.replica s.r) s.m t.envelope i).0))
-]
-origin p w w' q (Warden_acts s) b t = elim (IsIn-cases t.envelope w.mail _ (rw s.mail at t.there)) [
-  | inl i ↦ Old (record { envelope = t.envelope; there = i; body = t.body })
-  | inr i ↦ let k = from_parcels p.replicas (Warden s.k) s.sent t.envelope i in Of_warden s k.1 k.2 (sym t.body ∙ k.3) (subst (WFact p.wardens s.k (w'.warden s.k)) t.body ((ward_facts_reach p w' (Next w w' q (Warden_acts s))).said t.envelope s.k t.there k.0))
-]
+use Rattle.law_steps.proofs.Origin.{Origin, origin}
+use Rattle.law_steps.proofs.Origin.Origin.{Old, Of_replica, Of_client, Of_warden}
 
 -- what a client decided stays
 pub decision_grows : (p : Plan) (w w' : World) → Step p w w' → (c : ℕ) (x : Exec) (d : Choice) → IsIn (record { exec = x; choice = d }) (w.client c).decisions → IsIn (record { exec = x; choice = d }) (w'.client c).decisions

@@ -1,3 +1,4 @@
+-- All contents of an execution in the mail are equal.
 use Rattle.std.proofs.Common.{◌≡◌, ℕ, ◌<◌, inl, inr, refl, ap, sym, ◌∙◌, subst, List, [], ◌∷◌, Option, Some, None}
 use Rattle.protocol.specs.Words.{Exec, Envelope, Body, Content, Choice, Abandon, ToCommit, Prepare, Finalize, Decide, Told, Fenced, Kept}
 use Rattle.std.specs.Option.{option_or}
@@ -8,13 +9,13 @@ use Rattle.protocol.specs.Client.Deciding.{content_for}
 use Rattle.protocol.specs.Client.State.Phase.{Prepared}
 use Rattle.protocol.specs.Warden.State.{WardenState, Round, ToldAnswer, Proposal, Parcel}
 use Rattle.protocol.specs.Warden.Recovery.{fixed, with_content, told_content}
-use Rattle.protocol.specs.World.State.{Plan, World, rules, warden_rules}
+use Rattle.protocol.specs.World.State.{Plan, World, rules, warden_rules, first_world}
 use Rattle.law_steps.proofs.ClientActs.{Act, IsQuiet}
 use Rattle.law_steps.proofs.ClientActs.Act.{Quiet, Advances, Prepares, Counts, Proposes, Accepts, Decides, Gives_up, Learns}
 use Rattle.law_safety.proofs.ChoiceOfTolds.{chosen}
 use Rattle.protocol.proofs.ListsLemmas.{at_cases, at_same, IsIn-right}
 use Rattle.law_steps.proofs.Reach.Step.{Stands, Client_acts, Replica_acts, Warden_acts}
-use Rattle.law_steps.proofs.Reach.{Step, Reach, ByClientAct, ByWardenAct, GotAt, HeardAt}
+use Rattle.law_steps.proofs.Reach.{Step, Reach, ByClientAct, ByWardenAct, GotAt, HeardAt, events_reach}
 use Rattle.law_steps.proofs.Reach.From.{Begins, Next}
 use Rattle.protocol.specs.World.Decided.{HasContent, WasSent}
 use Rattle.law_steps.proofs.KnownLemmas.{Took, commit_taken, cast_taken}
@@ -23,13 +24,16 @@ use Rattle.law_steps.proofs.MailLemmas.{took_reach, taking_cases}
 use Rattle.law_steps.proofs.ReplicaFacts.{RFact}
 use Rattle.law_steps.proofs.WardenFacts.{WFact, round_found}
 use Rattle.law_safety.proofs.LocksLemmas.{sent_grows}
-use Rattle.law_safety.proofs.LocksStay.{Origin, origin}
-use Rattle.law_steps.proofs.Induction.{parcel_body}
-use Rattle.law_safety.proofs.LocksStay.Origin.{Old, Of_replica, Of_client, Of_warden}
+use Rattle.law_steps.proofs.Origin.{Origin, origin}
+use Rattle.law_steps.proofs.SendingLemmas.{parcel_body}
+use Rattle.law_steps.proofs.Origin.Origin.{Old, Of_replica, Of_client, Of_warden}
 use Rattle.law_safety.proofs.ClientEvidence.{evident_reach}
 use Rattle.law_safety.proofs.WardenEvidence.{ward_reach}
-use Rattle.law_safety.proofs.ClientSent.{quiet_not, in_single, in_none}
+use Rattle.law_steps.proofs.ClientSent.{quiet_not, in_single, in_none}
 use Rattle.law_safety.proofs.WardenSent.{ward_decided}
+use Rattle.protocol.specs.World.Events.{replay_from}
+use Rattle.law_safety.specs.Invariants.{OneContent}
+use Rattle.law_safety.proofs.OneProposal.{one_reach}
 
 -- each content in the mail is that of a Prepare
 pub record Prepared_contents (w : World) : Type 0 where
@@ -150,3 +154,12 @@ module _ (p : Plan) (pos : 0 < p.replicas) (w w' : World) (q : Reach p w) (st : 
 pub contents_reach : (p : Plan) → 0 < p.replicas → (w : World) → Reach p w → Prepared_contents w
 contents_reach p pos _ Begins = record { from = λ b x k h t. absurd t.there }
 contents_reach p pos _ (Next w w' q st) = record { from = contents_step p pos w w' q st (contents_reach p pos w q) }
+
+-- all Prepares of an execution carry one content
+pub same_prepared : (p : Plan) (w : World) → Reach p w → (x : Exec) (k l : Content) → WasSent w (Prepare x k) → WasSent w (Prepare x l) → k ≡ l
+same_prepared p w q x k l a b = (one_reach p w q).prepare a.envelope b.envelope x k l a.there b.there a.body b.body
+
+pub one_content : OneContent
+one_content p pos events x b c k l s t h g =
+    let w = replay_from p first_world events in let q = events_reach p first_world first_world Begins events in
+    same_prepared p w q x k l ((contents_reach p pos w q).from b x k h s) ((contents_reach p pos w q).from c x l g t)

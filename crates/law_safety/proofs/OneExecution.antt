@@ -1,89 +1,34 @@
-use Rattle.std.proofs.Common.{◌≡◌, ℕ, ◌<◌, ◌≤◌, ◌⊎◌, inl, inr, refl, ap, sym, ◌∙◌, subst, List, [], ◌∷◌, arith}
+-- Of all executions of all tries of a transaction at most one is committed.
+use Rattle.std.proofs.Common.{◌≡◌, ℕ, ◌<◌, ◌≤◌, ◌⊎◌, inl, inr, refl, ap, sym, ◌∙◌, subst, List, arith}
 use Rattle.protocol.specs.Words.{Exec, Version, Body, NodeId, Content, Commit, Abandon, Prepare}
 use Rattle.protocol.specs.Lists.{IsIn}
 use Rattle.protocol.specs.Client.State.{Rules, ClientState, Decision, Attempt}
 use Rattle.protocol.specs.Client.State.Phase.{Between}
 use Rattle.protocol.specs.World.State.{Plan, World, first_world, rules}
 use Rattle.protocol.specs.World.Events.{replay_from}
-use Rattle.protocol.specs.World.Decided.{WasSent, Committed, IsOf}
+use Rattle.protocol.specs.World.Decided.{WasSent, IsOf}
 use Rattle.law_steps.specs.Executions.{IsEarlier}
-use Rattle.law_safety.specs.Tries.{OneExecution, OneTry}
-use Rattle.protocol.proofs.ListsLemmas.{at_cases, at_same}
+use Rattle.law_steps.proofs.ExecutionsLemmas.{exec_order, earlier_itself}
+use Rattle.law_safety.specs.Tries.{OneExecution}
+use Rattle.protocol.proofs.ListsLemmas.{at_same}
 use Rattle.protocol.proofs.QuorumsLemmas.{quorums_meet}
-use Rattle.law_steps.proofs.PhaseLemmas.{running_under_way}
-use Rattle.law_steps.proofs.ClientActs.{Act, IsRunning, IsAborted, IsOn, TryStep}
+use Rattle.law_steps.proofs.PhaseLemmas.{running_under_way, running_between}
+use Rattle.law_steps.proofs.ClientActs.{Act, IsRunning, TryStep}
 use Rattle.law_steps.proofs.ClientActs.TryStep.{Keeps, Next_exec, Next_try}
 use Rattle.law_steps.proofs.ClientActs.Act.{Quiet, Advances, Prepares, Counts, Proposes, Accepts, Decides, Gives_up, Learns}
 use Rattle.law_steps.proofs.Reach.{Step, Reach, GotAt, events_reach}
-use Rattle.law_steps.proofs.Reach.Step.{Stands, Client_acts, Replica_acts, Warden_acts}
 use Rattle.law_steps.proofs.Reach.From.{Begins, Next}
-use Rattle.law_steps.proofs.ClientFacts.{At, HasPrepared, rec_reach}
-use Rattle.law_safety.proofs.OneProposal.{prepare_from, earlier_itself, not_at, running_between, running_prepared}
+use Rattle.law_steps.proofs.ClientFacts.{At, HasPrepared, rec_reach, not_at, running_prepared}
+use Rattle.law_steps.proofs.Senders.{prepare_from}
 use Rattle.law_safety.proofs.LocksLemmas.{voted_prepared}
-use Rattle.law_safety.proofs.LocksStay.{Origin, origin}
-use Rattle.law_safety.proofs.LocksStay.Origin.{Old, Of_replica, Of_client, Of_warden}
+use Rattle.law_steps.proofs.Origin.{Origin, origin}
+use Rattle.law_steps.proofs.Origin.Origin.{Old, Of_replica, Of_client, Of_warden}
 use Rattle.law_safety.proofs.ClientEvidence.{decisions_reach}
-use Rattle.law_safety.proofs.ClientSent.{quiet_not, in_single, in_none}
+use Rattle.law_steps.proofs.ClientSent.{quiet_not, in_single, in_none}
 use Rattle.law_safety.proofs.TruncationSettles.{CommitSent, apart_locks}
 use Rattle.law_safety.proofs.InvariantHolds.{safe_reach}
-use Rattle.law_safety.proofs.BaseOfDrop.{committed_sent}
-
-abbrev pub IsFalling : List Attempt → Type 0
-IsFalling [] = Unit {0}
-IsFalling (a ∷ more) = ((b : Attempt) → IsIn b more → b.ver.ts < a.ver.ts) × IsFalling more
-
--- what a client's record says of its tries
-pub record TryRec (s : ClientState) : Type 0 where
-  pub begun : (b : Attempt) → IsIn b s.attempts → b.ver ≡ s.exec.ver → b.txn ≡ s.begun
-  pub bounded : (b : Attempt) → IsIn b s.attempts → (b.ver.ts ≤ s.exec.ver.ts) × (b.txn ≤ s.begun)
-  pub aborted : s.phase ≡ Between → IsAborted s.fate → IsIn (record { exec = s.exec; choice = Abandon }) s.decisions
-  pub has : IsOn s → (a : Attempt) × IsIn a s.attempts × (a.ver ≡ s.exec.ver)
-  pub falling : IsFalling s.attempts
-
-step_rec : (s s' : ClientState) → TryStep s s' → TryRec s → TryRec s'
-step_rec s s' (Keeps e b a d k u) t = record {
-  begun = λ c i v. t.begun c (subst (λ l. IsIn c l) a i) (v ∙ ap (λ (x : Exec). x.ver) e) ∙ sym b;
-  bounded = λ c i. let z = t.bounded c (subst (λ l. IsIn c l) a i) in (subst (λ (x : Exec). c.ver.ts ≤ x.ver.ts) (sym e) z.0, subst (λ n. c.txn ≤ n) (sym b) z.1);
-  aborted = λ z f. subst (λ (x : Exec). IsIn (record { exec = x; choice = Abandon }) s'.decisions) (sym e) (elim (k z f) [ inl y ↦ d _ (t.aborted y.0 y.1) | inr y ↦ y ]);
-  has = λ z. let h = t.has (u z) in (h.0, subst (λ l. IsIn h.0 l) (sym a) h.1, h.2 ∙ ap (λ (x : Exec). x.ver) (sym e));
-  falling = subst IsFalling (sym a) t.falling;
-}
-step_rec s s' (Next_exec v b a d c run) t = record {
-  begun = λ z i y. t.begun z (subst (λ l. IsIn z l) a i) (y ∙ v) ∙ sym b;
-  bounded = λ z i. let y = t.bounded z (subst (λ l. IsIn z l) a i) in (subst (λ (x : Version). z.ver.ts ≤ x.ts) (sym v) y.0, subst (λ n. z.txn ≤ n) (sym b) y.1);
-  aborted = λ z f. absurd (running_between s'.phase run z);
-  has = λ z. let h = t.has (elim c [ inl y ↦ inl (running_under_way s.phase y) | inr y ↦ inr y.0 ]) in (h.0, subst (λ l. IsIn h.0 l) (sym a) h.1, h.2 ∙ sym v);
-  falling = subst IsFalling (sym a) t.falling;
-}
-step_rec s s' (Next_try q l a d c run) t = record {
-  begun = λ z i y. elim (subst (λ l. IsIn z l) a i) [
-    | inl e ↦ ap (λ (x : Attempt). x.txn) e
-    | inr j ↦ let k = (t.bounded z j).0 in let f = ap (λ (x : Version). x.ts) y in absurd (omega (arith, k, f, l))
-  ];
-  bounded = λ z i. elim (subst (λ l. IsIn z l) a i) [
-    | inl e ↦ let f = ap (λ (x : Attempt). x.ver.ts) e in let g = ap (λ (x : Attempt). x.txn) e in (omega (arith, f), omega (arith, g))
-    | inr j ↦ let k = t.bounded z j in let k0 = k.0 in let k1 = k.1 in (omega (arith, k0, l), elim c [ inl m ↦ (let m0 = m.0 in omega (arith, k1, m0)) | inr m ↦ omega (arith, k1, m) ])
-  ];
-  aborted = λ z f. absurd (running_between s'.phase run z);
-  has = λ z. (record { ver = s'.exec.ver; txn = s'.begun; try = s'.try }, subst (λ l. IsIn (record { ver = s'.exec.ver; txn = s'.begun; try = s'.try }) l) (sym a) (inl refl), refl);
-  falling = subst IsFalling (sym a) ((λ b i. let k = (t.bounded b i).0 in omega (arith, k, l)), t.falling);
-}
-
--- a client's record in a step
-client_tries : (p : Plan) (w w' : World) → Step p w w' → (c : ℕ) → (w'.client c ≡ w.client c) ⊎ TryStep (w.client c) (w'.client c)
-client_tries p w w' (Stands s) c = inl (ap (λ f. f c) s.client)
-client_tries p w w' (Replica_acts s) c = inl (ap (λ f. f c) s.client)
-client_tries p w w' (Warden_acts s) c = inl (ap (λ f. f c) s.client)
-client_tries p w w' (Client_acts s) c = subst (λ (f : ℕ → ClientState). (f c ≡ w.client c) ⊎ TryStep (w.client c) (f c)) (sym s.client)
-    (at_cases (λ (z : ClientState). (z ≡ w.client c) ⊎ TryStep (w.client c) z) s.c s.state w.client c (λ e. inr (subst (λ j. TryStep (w.client j) s.state) (sym e) s.tries)) (inl refl))
-
-pub try_rec : (p : Plan) (w : World) → Reach p w → (c : ℕ) → TryRec (w.client c)
-try_rec p _ Begins c = record { begun = λ b i. absurd i; bounded = λ b i. absurd i; aborted = λ z f. absurd f; has = λ z. elim z [ inl y ↦ absurd y | inr y ↦ absurd y ]; falling = tt }
-try_rec p _ (Next w w' q st) c = go (client_tries p w w' st c) (try_rec p w q c)
-  where
-    go : (w'.client c ≡ w.client c) ⊎ TryStep (w.client c) (w'.client c) → TryRec (w.client c) → TryRec (w'.client c)
-    go (inl e) t = subst TryRec (sym e) t
-    go (inr s) t = step_rec (w.client c) (w'.client c) s t
+use Rattle.law_safety.proofs.CommitIsSent.{committed_sent}
+use Rattle.law_steps.proofs.TryRec.{try_rec, client_tries}
 
 -- a Prepare of client c that was sent in a step is of the execution under way
 prepares_act : (r : Rules) (Got : NodeId → Body → Type 0) (s s' : ClientState) (sent : List Body) → Act r Got s s' sent → (x : Exec) (k : Content) → IsIn (Prepare x k) sent → (x ≡ s.exec) × IsRunning s.phase × (s'.exec ≡ s.exec)
@@ -121,7 +66,7 @@ prepared_old p w q x k t = go (prepare_from p w q t.envelope x k t.there t.body)
     go (inr h) = inr h.0
 
 -- of one client: what was prepared and is not the present execution was abandoned before the next of its transaction
-record Single (w : World) (c : ℕ) : Type 0 where
+pub record Single (w : World) (c : ℕ) : Type 0 where
   pub past : (x : Exec) (k : Content) → WasSent w (Prepare x k) → x.ver.client ≡ c → IsEarlier x (w.client c).exec → (a : Attempt) → IsIn a (w.client c).attempts → a.ver ≡ x.ver → a.txn ≡ (w.client c).begun → IsIn (record { exec = x; choice = Abandon }) (w.client c).decisions
   pub pairs : (x y : Exec) (k l : Content) → WasSent w (Prepare x k) → WasSent w (Prepare y l) → x.ver.client ≡ c → y.ver.client ≡ c → IsEarlier x y → (a b : Attempt) → IsIn a (w.client c).attempts → IsIn b (w.client c).attempts → a.ver ≡ x.ver → b.ver ≡ y.ver → a.txn ≡ b.txn → IsIn (record { exec = x; choice = Abandon }) (w.client c).decisions
   pub has : (x : Exec) (k : Content) → WasSent w (Prepare x k) → x.ver.client ≡ c → (a : Attempt) × IsIn a (w.client c).attempts × (a.ver ≡ x.ver)
@@ -239,19 +184,9 @@ module _ (p : Plan) (w w' : World) (q : Reach p w) (st : Step p w w') (c : ℕ) 
         go (inl t) = let h = s.has x k t e in (h.0, kept_attempt h.0 h.1, h.2)
         go (inr n) = let h = (try_rec p w q c).has (inl (running_under_way (w.client c).phase n.1)) in (h.0, kept_attempt h.0 h.1, h.2 ∙ ap (λ (z : Exec). z.ver) (sym n.0))
 
-single_reach : (p : Plan) (w : World) → Reach p w → (c : ℕ) → Single w c
+pub single_reach : (p : Plan) (w : World) → Reach p w → (c : ℕ) → Single w c
 single_reach p _ Begins c = record { past = λ x k t. absurd t.there; pairs = λ x y k l t. absurd t.there; has = λ x k t. absurd t.there }
 single_reach p _ (Next w w' q st) c = let s = single_reach p w q c in record { past = past_step p w w' q st c s; pairs = pairs_step p w w' q st c s; has = has_step p w w' q st c s }
-
-falling_one : (more : List Attempt) → IsFalling more → (a b : Attempt) → IsIn a more → IsIn b more → a.ver.ts ≡ b.ver.ts → a ≡ b
-falling_one [] f a b i j e = absurd i
-falling_one (c ∷ more) f a b (inl x) (inl y) e = x ∙ sym y
-falling_one (c ∷ more) f a b (inl x) (inr j) e = let l = f.0 b j in let g = ap (λ (z : Attempt). z.ver.ts) x in absurd (omega (arith, l, g, e))
-falling_one (c ∷ more) f a b (inr i) (inl y) e = let l = f.0 a i in let g = ap (λ (z : Attempt). z.ver.ts) y in absurd (omega (arith, l, g, e))
-falling_one (c ∷ more) f a b (inr i) (inr j) e = falling_one more f.1 a b i j e
-
-exec_order : (x y : Exec) → x.ver.client ≡ y.ver.client → IsEarlier x y ⊎ ((x ≡ y) ⊎ IsEarlier y x)
-exec_order x y e = grind arith
 
 module _ (p : Plan) (pos : 0 < p.replicas) (w : World) (q : Reach p w) where
   pub committed_prepared : (x : Exec) → CommitSent w x → (k : Content) × WasSent w (Prepare x k)
@@ -270,22 +205,7 @@ module _ (p : Plan) (pos : 0 < p.replicas) (w : World) (q : Reach p w) where
     | inr o ↦ elim o [ inl z ↦ z | inr l ↦ absurd (not_both y x b a d c j i (sym e) (sym n) l) ]
   ]
 
-  -- a committed execution is one of a try, and of no other
-  pub tried : (x : Exec) → Committed w x → (a : Attempt) × IsOf w x a
-  tried x c =
-      let k = committed_prepared x (committed_sent p pos w q x c) in
-      let h = (single_reach p w q x.ver.client).has x k.0 k.1 refl in
-      (h.0, record { begun = h.1; version = h.2 })
-
-  pub one_attempt : (x : Exec) (a b : Attempt) → IsOf w x a → IsOf w x b → a ≡ b
-  one_attempt x a b i j = falling_one (w.client x.ver.client).attempts (try_rec p w q x.ver.client).falling a b i.begun j.begun (ap (λ (v : Version). v.ts) (i.version ∙ sym j.version))
-
 pub one_execution : OneExecution
 one_execution p pos events x y a b c d i j e n =
     let w = replay_from p first_world events in let q = events_reach p first_world first_world Begins events in
     one_of_all p pos w q x y a b (committed_sent p pos w q x c) (committed_sent p pos w q y d) i j e n
-
-pub one_try : OneTry
-one_try p pos events x c =
-    let w = replay_from p first_world events in let q = events_reach p first_world first_world Begins events in
-    let h = tried p pos w q x c in (h.0, h.1, λ b o. one_attempt p pos w q x b h.0 o h.1)

@@ -1,55 +1,27 @@
-use Rattle.std.proofs.Common.{◌≡◌, ℕ, ◌<◌, ◌≤◌, ◌+◌, ◌*◌, ◌⊎◌, inl, inr, refl, ap, sym, ◌∙◌, subst, List, [], ◌∷◌, ◌++◌, Option, Some, None, arith}
+use Rattle.std.proofs.Common.{◌≡◌, ℕ, ◌<◌, ◌≤◌, ◌+◌, ◌*◌, ◌⊎◌, inl, inr, ap, sym, ◌∙◌, subst, List, [], ◌∷◌, ◌++◌, Option, Some, arith}
 use Rattle.std.specs.Prelude.{flat_map, suc}
 use Rattle.std.proofs.Math.Nat.{mul-le-mul_right}
 use Rattle.std.proofs.lemmas.List.{append-nil}
-use Rattle.protocol.specs.Words.{Exec, NodeId, Client, Replica, Warden, Envelope, Body, Content, Choice, Prepare, Finalize}
+use Rattle.protocol.specs.Words.{Exec, Client, Replica, Warden, Envelope, Body, Content, Choice, Prepare, Finalize}
 use Rattle.protocol.specs.Lists.{IsIn}
-use Rattle.protocol.specs.Client.State.{Rules, ClientState, Phase}
-use Rattle.protocol.specs.Client.Deciding.{content_for}
-use Rattle.protocol.specs.Client.State.Phase.{Between, Running, Prepared}
 use Rattle.protocol.specs.Warden.State.{Round, Proposal}
 use Rattle.protocol.specs.Warden.Recovery.{round_of}
 use Rattle.protocol.specs.World.State.{Plan, World, rules}
 use Rattle.protocol.specs.World.Events.{to_all}
-use Rattle.law_steps.proofs.PhaseLemmas.{running_under_way}
-use Rattle.law_steps.proofs.ClientActs.{Act, IsQuiet, AllQuiet, IsRunning, IsUnderWay}
-use Rattle.law_steps.specs.Executions.{IsEarlier}
-use Rattle.law_steps.proofs.ClientActs.Act.{Quiet, Advances, Prepares, Counts, Proposes, Accepts, Decides, Gives_up, Learns}
+use Rattle.law_steps.proofs.PhaseLemmas.{running_under_way, open_under, running_between, open_between}
+use Rattle.law_steps.proofs.ClientActs.{IsRunning, IsUnderWay, IsOpen}
 use Rattle.protocol.proofs.ListsLemmas.{IsIn-cases, IsIn-right}
 use Rattle.law_steps.proofs.SaysLemmas.{spoken}
 use Rattle.law_steps.proofs.Reach.{Step, Reach, ByClientAct, GotAt}
 use Rattle.law_steps.proofs.Reach.Step.{Stands, Client_acts, Replica_acts, Warden_acts}
 use Rattle.law_steps.proofs.Reach.From.{Begins, Next}
-use Rattle.law_steps.proofs.Induction.{from_to_all, from_parcels}
+use Rattle.law_steps.proofs.SendingLemmas.{from_to_all, from_parcels}
 use Rattle.law_steps.proofs.ReplicaFacts.{RFact, facts_reach}
-use Rattle.law_steps.proofs.ClientFacts.{CFact, At, HasPrepared, HasProposed, client_facts_reach, rec_reach}
-use Rattle.law_steps.proofs.WardenFacts.{WFact, round_found, ward_facts_reach, wrec_reach}
-
--- which client sent a Prepare
-pub prepare_from : (p : Plan) (w : World) → Reach p w → (e : Envelope) (x : Exec) (k : Content) → IsIn e w.mail → e.body ≡ Prepare x k → (e.from ≡ Client x.ver.client) × At (HasPrepared k) x (w.client x.ver.client)
-prepare_from p w q e x k i b = go e.from refl
-  where
-    go : (n : NodeId) → e.from ≡ n → (e.from ≡ Client x.ver.client) × At (HasPrepared k) x (w.client x.ver.client)
-    go (Client c) f = let g : CFact c (w.client c) (Prepare x k) = subst (CFact c (w.client c)) b ((client_facts_reach p w q).said e c i f) in (rw (f, g.0), subst (λ z. At (HasPrepared k) x (w.client z)) (sym g.0) g.1)
-    go (Replica r) f = absurd (subst (RFact r (w.replica r)) b ((facts_reach p w q).said e r i f))
-    go (Warden k') f = absurd (subst (WFact p.wardens k' (w.warden k')) b ((ward_facts_reach p w q).said e k' i f))
-
--- who sent a Finalize: the client, in view 0, or a warden, whose round in that view proposed it
-pub data FinalFrom (p : Plan) (w : World) (e : Envelope) (x : Exec) (v : ℕ) (d : Choice) (o : Option Content) : Type 0 where
-  By_client : e.from ≡ Client x.ver.client → v ≡ 0 → At (HasProposed d o) x (w.client x.ver.client) → FinalFrom p w e x v d o
-  By_warden : (k : ℕ) → e.from ≡ Warden k → (0 < k) × (k ≤ p.wardens) → (a : Round) → round_of x v (w.warden k).rounds ≡ Some a → a.proposal ≡ Some (record { choice = d; content = o }) → FinalFrom p w e x v d o
-
-pub final_from : (p : Plan) (w : World) → Reach p w → (e : Envelope) (x : Exec) (v : ℕ) (d : Choice) (o : Option Content) → IsIn e w.mail → e.body ≡ Finalize x v d o → FinalFrom p w e x v d o
-final_from p w q e x v d o i b = go e.from refl
-  where
-    go : (n : NodeId) → e.from ≡ n → FinalFrom p w e x v d o
-    go (Client c) f = let g : CFact c (w.client c) (Finalize x v d o) = subst (CFact c (w.client c)) b ((client_facts_reach p w q).said e c i f) in By_client (rw (f, g.1)) g.0 (subst (λ z. At (HasProposed d o) x (w.client z)) (sym g.1) g.2)
-    go (Replica r) f = absurd (subst (RFact r (w.replica r)) b ((facts_reach p w q).said e r i f))
-    go (Warden k) f = let g : WFact p.wardens k (w.warden k) (Finalize x v d o) = subst (WFact p.wardens k (w.warden k)) b ((ward_facts_reach p w q).said e k i f) in By_warden k f g.0 g.1.0 g.1.1 g.1.2
-
--- a warden's view is k + i * n for some i
-pub warden_view : (p : Plan) (w : World) → Reach p w → (k : ℕ) (x : Exec) (v : ℕ) (a : Round) → round_of x v (w.warden k).rounds ≡ Some a → (i : ℕ) × (v ≡ k + i * p.wardens)
-warden_view p w q k x v a e = let f = round_found x v (w.warden k).rounds a e in let n = (wrec_reach p w q k).numbered a f.0 in (n.0, sym f.2 ∙ n.2)
+use Rattle.law_steps.proofs.ClientFacts.{At, HasPrepared, HasProposed, rec_reach, open_proposed, running_prepared, not_at}
+use Rattle.law_steps.proofs.WardenFacts.{WFact, ward_facts_reach}
+use Rattle.law_steps.proofs.Senders.{prepare_from, final_from, warden_view, FinalFrom}
+use Rattle.law_steps.proofs.ClientSent.{sent_finalize, sent_prepare}
+use Rattle.law_steps.proofs.Senders.FinalFrom.{By_client, By_warden}
 
 same_warden : (k k' i i' n : ℕ) → (0 < k) × (k ≤ n) → (0 < k') × (k' ≤ n) → k + i * n ≡ k' + i' * n → k ≡ k'
 same_warden k k' i i' n a b e = go (cases i i')
@@ -61,106 +33,6 @@ same_warden k k' i i' n a b e = go (cases i i')
     go (inl l) = let m : suc i * n ≤ i' * n = mul-le-mul_right n l in absurd (omega arith)
     go (inr (inl l)) = let m : i * n ≡ i' * n = ap (λ z. z * n) l in omega arith
     go (inr (inr l)) = let m : suc i' * n ≤ i * n = mul-le-mul_right n l in absurd (omega arith)
-
--- a Prepare among the bodies of an act
-pub sent_prepare : (r : Rules) (Got : NodeId → Body → Type 0) (s s' : ClientState) (sent : List Body) → Act r Got s s' sent → (x : Exec) (k : Content) → IsIn (Prepare x k) sent → (x ≡ s.exec) × IsRunning s.phase × (sent ≡ Prepare x k ∷ [])
-sent_prepare r Got s s' sent a x k i = go a
-  where
-    quiet : (bs : List Body) → AllQuiet bs → IsIn (Prepare x k) bs → ⊥
-    quiet [] q i = i
-    quiet (b ∷ bs) q (inl e) = subst IsQuiet (sym e) q.0
-    quiet (b ∷ bs) q (inr i) = quiet bs q.1 i
-
-    none : sent ≡ [] → ⊥
-    none e = rw e at i
-
-    other : (b : Body) → sent ≡ b ∷ [] → (Prepare x k ≡ b → ⊥) → ⊥
-    other b e n = elim (rw e at i) [ inl z ↦ n z | inr z ↦ z ]
-
-    go : Act r Got s s' sent → (x ≡ s.exec) × IsRunning s.phase × (sent ≡ Prepare x k ∷ [])
-    go (Quiet e d g q) = absurd (quiet sent q i)
-    go (Advances u n l c d q) = absurd (none q)
-    go (Prepares k' n e d f q) = hit k' n q (rw q at i)
-      where
-        hit : (k' : Content) → IsRunning s.phase → sent ≡ Prepare s.exec k' ∷ [] → (Prepare x k ≡ Prepare s.exec k') ⊎ ⊥ → (x ≡ s.exec) × IsRunning s.phase × (sent ≡ Prepare x k ∷ [])
-        hit k' n q (inl z) = let a : x ≡ s.exec = cc in (a, n, q ∙ ap (λ (b : Body). b ∷ []) (sym z))
-        hit k' n q (inr z) = absurd z
-    go (Counts k vs acs j v a got b c e d f q) = absurd (none q)
-    go (Proposes k vs acs d0 a b e d f q) = absurd (other _ q (λ z. cc))
-    go (Accepts k vs d0 acs j a got b c e d f q) = absurd (none q)
-    go (Decides k vs o' acs d0 a w e d f q) = absurd (other _ q (λ z. cc))
-    go (Gives_up n e d f q) = absurd (other _ q (λ z. cc))
-    go (Learns j d0 k n got e d f q) = absurd (none q)
-
--- a Finalize among the bodies of an act
-abbrev pub IsOpen : Phase → Type 0
-IsOpen (Prepared k v None a) = Unit {0}
-IsOpen _ = ⊥
-
-pub sent_finalize : (r : Rules) (Got : NodeId → Body → Type 0) (s s' : ClientState) (sent : List Body) → Act r Got s s' sent → (x : Exec) (v : ℕ) (d : Choice) (o : Option Content) → IsIn (Finalize x v d o) sent → (x ≡ s.exec) × IsOpen s.phase × (sent ≡ Finalize x v d o ∷ [])
-sent_finalize r Got s s' sent a x v d o i = go a
-  where
-    quiet : (bs : List Body) → AllQuiet bs → IsIn (Finalize x v d o) bs → ⊥
-    quiet [] q i = i
-    quiet (b ∷ bs) q (inl e) = subst IsQuiet (sym e) q.0
-    quiet (b ∷ bs) q (inr i) = quiet bs q.1 i
-
-    none : sent ≡ [] → ⊥
-    none e = rw e at i
-
-    other : (b : Body) → sent ≡ b ∷ [] → (Finalize x v d o ≡ b → ⊥) → ⊥
-    other b e n = elim (rw e at i) [ inl z ↦ n z | inr z ↦ z ]
-
-    go : Act r Got s s' sent → (x ≡ s.exec) × IsOpen s.phase × (sent ≡ Finalize x v d o ∷ [])
-    go (Quiet e d g q) = absurd (quiet sent q i)
-    go (Advances u n l c d q) = absurd (none q)
-    go (Prepares k' n e d f q) = absurd (other _ q (λ z. cc))
-    go (Counts k vs acs j v a got b c e d f q) = absurd (none q)
-    go (Proposes k vs acs d0 a b e f g q) = hit k d0 (rw a tt) q (rw q at i)
-      where
-        hit : (k : Content) (d0 : Choice) → IsOpen s.phase → sent ≡ Finalize s.exec 0 d0 (content_for k d0) ∷ [] → (Finalize x v d o ≡ Finalize s.exec 0 d0 (content_for k d0)) ⊎ ⊥ → (x ≡ s.exec) × IsOpen s.phase × (sent ≡ Finalize x v d o ∷ [])
-        hit k d0 n q (inl z) = let a : x ≡ s.exec = cc in (a, n, q ∙ ap (λ (b : Body). b ∷ []) (sym z))
-        hit k d0 n q (inr z) = absurd z
-    go (Accepts k vs d0 acs j a got b c e d f q) = absurd (none q)
-    go (Decides k vs o' acs d0 a w e d f q) = absurd (other _ q (λ z. cc))
-    go (Gives_up n e d f q) = absurd (other _ q (λ z. cc))
-    go (Learns j d0 k n got e d f q) = absurd (none q)
-
-pub earlier_itself : (x : Exec) → IsEarlier x x → ⊥
-earlier_itself x e = grind arith
-
--- an execution that is neither over nor prepared is not the present one
-pub not_at : (P : Phase → Type 0) (x : Exec) (s : ClientState) → x ≡ s.exec → (s.phase ≡ Between → ⊥) → (P s.phase → ⊥) → At P x s → ⊥
-not_at P x s e b n (inl (inl h)) = earlier_itself s.exec (subst (λ z. IsEarlier z s.exec) e h)
-not_at P x s e b n (inl (inr h)) = b h.1
-not_at P x s e b n (inr h) = n h.1
-
-pub running_between : (p : Phase) → IsRunning p → p ≡ Between → ⊥
-running_between Between r e = r
-running_between (Running a b) r e = cc
-running_between (Prepared k v o a) r e = cc
-
-pub running_prepared : (k : Content) (p : Phase) → IsRunning p → HasPrepared k p → ⊥
-running_prepared k Between r h = h
-running_prepared k (Running a b) r h = h
-running_prepared k (Prepared l v o a) r h = r
-
-pub open_under : (h : Phase) → IsOpen h → IsUnderWay h
-open_under Between h = absurd h
-open_under (Running a b) h = absurd h
-open_under (Prepared k v o a) h = tt
-
-pub open_between : (p : Phase) → IsOpen p → p ≡ Between → ⊥
-open_between Between r e = r
-open_between (Running a b) r e = r
-open_between (Prepared k v None a) r e = cc
-open_between (Prepared k v (Some d) a) r e = r
-
-pub open_proposed : (d : Choice) (o : Option Content) (p : Phase) → IsOpen p → HasProposed d o p → ⊥
-open_proposed d o Between r h = h
-open_proposed d o (Running a b) r h = h
-open_proposed d o (Prepared l v None a) r h = h
-open_proposed d o (Prepared l v (Some e) a) r h = r
 
 -- all Prepares of x carry one content, and all Finalizes of x in view 0 one choice
 pub record One (w : World) : Type 0 where

@@ -24,11 +24,11 @@ use Rattle.law_steps.proofs.WardenActs.{WAct}
 use Rattle.law_steps.proofs.WardenActs.WAct.{Stills, Asks, Tolds, Accepts as Ward_accepts, Begins_cut, Counts_fenced, Ends_cut}
 use Rattle.law_steps.proofs.Reach.{Reach, GotAt, HeardAt}
 use Rattle.law_steps.proofs.Reach.From.{Begins, Next}
-use Rattle.law_steps.proofs.Induction.{parcel_body}
-use Rattle.law_safety.proofs.LocksStay.{Origin, origin}
-use Rattle.law_safety.proofs.LocksStay.Origin.{Old, Of_replica, Of_client, Of_warden}
+use Rattle.law_steps.proofs.SendingLemmas.{parcel_body}
+use Rattle.law_steps.proofs.Origin.{Origin, origin}
+use Rattle.law_steps.proofs.Origin.Origin.{Old, Of_replica, Of_client, Of_warden}
 use Rattle.law_safety.proofs.WardenEvidence.{ward_reach}
-use Rattle.law_safety.proofs.ClientSent.{quiet_not, in_single, in_none}
+use Rattle.law_steps.proofs.ClientSent.{quiet_not, in_single, in_none}
 use Rattle.law_safety.proofs.WardenSent.{ward_decided, in_parcels, no_parcels, to_client_body}
 
 pub commit_decided : (h : Handled) (l : Kept) → IsIn l (commits h) → (m : Envelope) × IsIn m h × (m.body ≡ Decide l.exec ToCommit (Some l.content))

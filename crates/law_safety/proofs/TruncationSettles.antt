@@ -1,5 +1,6 @@
-use Rattle.protocol.proofs.QuorumsLemmas.{named_quorum}
-use Rattle.law_steps.proofs.KnownLemmas.{choice_cases}
+use Rattle.protocol.proofs.QuorumsLemmas.{named_quorum, quorums_meet}
+use Rattle.law_safety.proofs.OneContent.{same_prepared, contents_reach}
+use Rattle.law_steps.proofs.KnownLemmas.{choice_cases, found}
 use Rattle.std.proofs.Common.{[], ◌≡◌, ℕ, ◌<◌, ◌≤◌, ◌⊎◌, ◌≢◌, inl, inr, refl, ap, sym, ◌∙◌, subst, true, false, Bool, cond, List, ◌∷◌, ◌++◌, Option, Some, None, length}
 use Rattle.std.specs.Prelude.{map, flat_map, not}
 use Rattle.std.specs.Option.{is_some}
@@ -18,8 +19,6 @@ use Rattle.law_safety.specs.Bases.{IsNamedByAnswers}
 use Rattle.law_safety.specs.Bases.IsNamedByAnswers.{As_committed as Names_committed, As_voted as Names_voted, Below_dropped}
 use Rattle.protocol.proofs.NamesLemmas.{exec_is}
 use Rattle.protocol.proofs.ListsLemmas.{map_in, flat_map_in, all_in, IsIn-left, IsIn-right, IsIn-cases, IsIn-flat_map}
-use Rattle.protocol.proofs.QuorumsLemmas.{quorums_meet}
-use Rattle.law_steps.proofs.KnownLemmas.{found}
 use Rattle.protocol.specs.World.Decided.{UpTo, WasSent}
 use Rattle.law_steps.proofs.TakenLemmas.{up_to_trans, IsIn-filter}
 use Rattle.law_steps.proofs.FencedFacts.{Named}
@@ -27,15 +26,13 @@ use Rattle.law_steps.proofs.FencedFacts.Named.{As_committed, As_voted, As_abando
 use Rattle.law_steps.proofs.VotesLemmas.{any_true}
 use Rattle.law_steps.proofs.MailLemmas.{took_reach}
 use Rattle.law_steps.proofs.Reach.{Reach}
-use Rattle.law_safety.proofs.OneProposal.{one_reach}
 use Rattle.law_safety.specs.Locks.{VotedCommit, Shut, AbandonLock}
 use Rattle.law_safety.proofs.LocksLemmas.{locks_clash, cast_found}
 use Rattle.law_safety.specs.Locks.Shut.{Fenced_out}
 use Rattle.law_safety.specs.Locks.AbandonLock.{All_shut}
 use Rattle.law_safety.proofs.BaseEntries.{HasEntry, Written}
 use Rattle.law_safety.proofs.WardenEvidence.{ward_reach, decided_sent, FencedPartFact}
-use Rattle.law_safety.proofs.ChoiceOfTolds.{Safe}
-use Rattle.law_safety.proofs.OneContent.{contents_reach}
+use Rattle.law_safety.proofs.Invariant.{Safe}
 use Rattle.law_safety.proofs.ShapedBodies.{commit_sent, Shaped, shaped_reach}
 use Rattle.law_safety.proofs.BaseLemmas.{entry_trans, puts_hold, puts_of}
 
@@ -66,9 +63,6 @@ CommitSent w x = (o : Option Content) × WasSent w (Decide x ToCommit o)
 
 -- what is at or below a version is settled when its Drop is sent
 module _ (p : Plan) (pos : 0 < p.replicas) (w : World) (q : Reach p w) (s : Safe p.replicas w) where
-  pub one_content : (x : Exec) (k l : Content) → WasSent w (Prepare x k) → WasSent w (Prepare x l) → k ≡ l
-  one_content x k l a b = (one_reach p w q).prepare a.envelope b.envelope x k l a.there b.there a.body b.body
-
   pub apart_locks : (x : Exec) → AbandonLock p.replicas w x → CommitSent w x → ⊥
   apart_locks x a c = locks_clash p w q s.proposals x a (s.committed x c.0 c.1).0
 
@@ -187,7 +181,7 @@ module _ (p : Plan) (pos : 0 < p.replicas) (w : World) (q : Reach p w) (s : Safe
           go : Stand y → HasEntry (put_entries [] gathered) e
           go (In_committed a d j h z) =
               let g = ((fact a j).1.committed d h).0 in
-              let same : d.content ≡ l = one_content y d.content l (subst (λ (v : Exec). WasSent w (Prepare v d.content)) z (commit_prepared a.replica d g)) pr in
+              let same : d.content ≡ l = same_prepared p w q y d.content l (subst (λ (v : Exec). WasSent w (Prepare v d.content)) z (commit_prepared a.replica d g)) pr in
               hold (IsIn-right e (flat_map (λ (b : FencedAnswer). b.base) t.answers) _ (IsIn-left e (flat_map (λ (b : FencedAnswer). kept_entries t.w b.committed) t.answers) _
               (flat_map_in (λ (b : FencedAnswer). kept_entries t.w b.committed) t.answers a e j
               (flat_map_in (λ (b : Kept). cond (before t.w b.exec.ver) [] (entries_of b.exec 1 b.content.writes)) a.committed d e h
@@ -207,7 +201,7 @@ module _ (p : Plan) (pos : 0 < p.replicas) (w : World) (q : Reach p w) (s : Safe
               in_base : (o : Option Content) → d.proposal.content ≡ o → HasEntry (put_entries [] gathered) e
               in_base None g = absurd (subst (λ (v : Option Content). Shaped ToCommit v) g (shaped_reach p pos w q y ToCommit d.proposal.content sent))
               in_base (Some n) g =
-                  let same : n ≡ l = one_content y n l ((contents_reach p pos w q).from (Decide y ToCommit d.proposal.content) y n (refl, g) sent) pr in
+                  let same : n ≡ l = same_prepared p w q y n l ((contents_reach p pos w q).from (Decide y ToCommit d.proposal.content) y n (refl, g) sent) pr in
                   let mine : IsIn e (decided_entries_of y (Some d)) = subst (λ (v : Option Content). IsIn e (elim v [ None ↦ [] | Some k ↦ entries_of y 1 k.writes ])) (sym g) (subst (λ (v : Content). IsIn e (entries_of y 1 v.writes)) (sym same) i) in
                   hold (IsIn-right e (flat_map (λ (b : FencedAnswer). b.base) t.answers) _ (IsIn-right e (flat_map (λ (b : FencedAnswer). kept_entries t.w b.committed) t.answers) _
                   (flat_map_in (λ (b : FencedAnswer). decided_entries t.w (w.warden k) b.voted) t.answers a e j

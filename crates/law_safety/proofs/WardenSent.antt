@@ -10,7 +10,7 @@ use Rattle.protocol.specs.Warden.Recovery.{with_accept, with_round, to_client, r
 use Rattle.protocol.specs.Warden.State.Parcel.{To_all, To_client}
 use Rattle.law_steps.proofs.WardenActs.{WAct}
 use Rattle.law_steps.proofs.WardenActs.WAct.{Stills, Asks, Tolds, Accepts as Ward_accepts, Begins_cut, Counts_fenced, Ends_cut}
-use Rattle.law_steps.proofs.Induction.{parcel_body}
+use Rattle.law_steps.proofs.SendingLemmas.{parcel_body}
 use Rattle.law_steps.proofs.WardenFacts.{round_found, put_found}
 
 pub to_client_body : (r : WardenRules) (x : Exec) (c : Body) (b : Parcel) → IsIn b (to_client r x c) → parcel_body b ≡ c

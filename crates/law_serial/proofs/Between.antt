@@ -6,7 +6,7 @@ use Rattle.law_serial.specs.Reads.{NothingBetween}
 use Rattle.law_steps.proofs.TakenLemmas.{true_false}
 use Rattle.law_safety.proofs.BaseEntries.{both, or_left_in}
 use Rattle.law_steps.proofs.VotesLemmas.{any_in}
-use Rattle.law_safety.proofs.InvariantHolds.{no_conflict}
+use Rattle.law_safety.proofs.NoConflict.{no_conflict}
 
 pub nothing_between : NothingBetween
 unfolding conflicts

@@ -14,7 +14,7 @@ use Rattle.law_steps.proofs.ClientFacts.{CFact, client_facts_reach}
 use Rattle.law_steps.proofs.WardenFacts.{WFact, ward_facts_reach}
 use Rattle.law_safety.proofs.BaseEntries.{entry_wid}
 use Rattle.law_safety.proofs.BaseIsOne.{entry_one}
-use Rattle.law_safety.proofs.BaseOfDrop.{sent_committed}
+use Rattle.law_safety.proofs.CommitIsSent.{sent_committed}
 use Rattle.law_serial.specs.Reads.{IsSure}
 use Rattle.law_serial.specs.Reads.IsSure.{First_value, Last_write}
 use Rattle.law_serial.specs.Programs.{ReadsCurrent}

@@ -19,9 +19,8 @@ use Rattle.protocol.specs.World.Premises.{IsProgramWalk}
 use Rattle.law_serial.specs.Programs.{IsNoted}
 use Rattle.protocol.proofs.TestLemmas.{and_right}
 use Rattle.protocol.proofs.NamesLemmas.{key_is}
-use Rattle.protocol.proofs.ListsLemmas.{IsIn-cases, IsIn-one_when}
+use Rattle.protocol.proofs.ListsLemmas.{IsIn-cases, IsIn-one_when, all_in}
 use Rattle.law_serial.proofs.Labels.{Fits, fits_append, fits_cut, fits_set, fits_get, fits_moved, fits_changed, place_get, read_at, effect_sure}
-use Rattle.protocol.proofs.ListsLemmas.{all_in}
 
 -- a label that Notes told
 pub record LabelOK (w : World) (v : Version) (k : Key) (l : Held) : Type 0 where

@@ -12,14 +12,15 @@ use Rattle.protocol.specs.World.Decided.{WasSent}
 use Rattle.protocol.proofs.ListsLemmas.{at_cases, at_same}
 use Rattle.law_steps.specs.Executions.{IsEarlier}
 use Rattle.law_steps.proofs.ClientActs.{IsRunning, Continues, WriteStep}
-use Rattle.law_steps.proofs.PhaseLemmas.{running_under_way}
+use Rattle.law_steps.proofs.PhaseLemmas.{running_under_way, running_between}
 use Rattle.law_steps.proofs.Reach.{Step, Reach, ByClientAct, GotAt, events_reach}
 use Rattle.law_steps.proofs.Reach.Step.{Stands, Client_acts, Replica_acts, Warden_acts}
 use Rattle.law_steps.proofs.Reach.From.{Begins, Next}
-use Rattle.law_steps.proofs.ClientFacts.{act_exec, earlier_trans, rec_reach, HasPrepared}
-use Rattle.law_safety.proofs.OneProposal.{prepare_from, not_at, running_between, running_prepared, earlier_itself}
-use Rattle.law_safety.proofs.LocksStay.{Origin, origin}
-use Rattle.law_safety.proofs.LocksStay.Origin.{Old, Of_replica, Of_client, Of_warden}
+use Rattle.law_steps.proofs.ClientFacts.{act_exec, rec_reach, HasPrepared, not_at, running_prepared}
+use Rattle.law_steps.proofs.ExecutionsLemmas.{earlier_trans, earlier_itself}
+use Rattle.law_steps.proofs.Senders.{prepare_from}
+use Rattle.law_steps.proofs.Origin.{Origin, origin}
+use Rattle.law_steps.proofs.Origin.Origin.{Old, Of_replica, Of_client, Of_warden}
 use Rattle.law_serial.specs.Fronts.{IsFront, IsPutFirst, PutsAreFronts}
 
 front_itself : (ws vs : List Write) → ws ≡ vs → IsFront ws vs

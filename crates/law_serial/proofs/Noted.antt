@@ -31,7 +31,7 @@ use Rattle.protocol.specs.World.Steps.Happens.{Stays, Client_moves, Replica_move
 use Rattle.law_steps.proofs.Reach.{Reach, happens_reach}
 use Rattle.law_steps.proofs.Reach.From.{Begins}
 use Rattle.law_steps.proofs.SaysLemmas.{spoken}
-use Rattle.law_steps.proofs.Induction.{from_to_all, from_parcels}
+use Rattle.law_steps.proofs.SendingLemmas.{from_to_all, from_parcels}
 use Rattle.law_steps.proofs.ReplicaFacts.{RFact, facts_reach}
 use Rattle.law_steps.proofs.ClientFacts.{CFact, client_facts_reach}
 use Rattle.law_steps.proofs.WardenFacts.{WFact, ward_facts_reach}

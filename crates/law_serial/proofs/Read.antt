@@ -1,12 +1,11 @@
 -- What a Note tells: a first value, the last write of a committed execution, or a write of a Puts.
 use Rattle.protocol.specs.Words.{Puts, Exec, Version, Wid, Key, NodeId, Client, Replica, Warden, Envelope, BaseEntry, Body, Content, Write, Get, Note, Prepare, Finalize, Ask, Fence, Voted, Drops, no_version, before, wid_before}
-use Rattle.protocol.specs.Replica.Taken.{is_above, version_of}
-use Rattle.law_steps.proofs.TakenLemmas.{taken_above}
+use Rattle.protocol.specs.Replica.Taken.{is_above, version_of, Handled, takes, after_taking, dropped, base}
+use Rattle.law_steps.proofs.TakenLemmas.{taken_above, true_false, no_base, dropped_taken, takes_above, up_to_none}
 use Rattle.law_steps.proofs.ReplicaFacts.{taking_reach}
 use Rattle.std.proofs.Common.{◌≡◌, ℕ, ℤ, ◌<◌, ◌⊎◌, inl, inr, refl, ap, sym, ◌∙◌, subst, true, false, Bool, cond, List, ◌∷◌, ◌++◌, Option, Some}
 use Rattle.std.specs.Prelude.{map, flat_map}
 use Rattle.protocol.specs.Lists.{IsIn}
-use Rattle.protocol.specs.Replica.Taken.{Handled, takes, after_taking, dropped, base}
 use Rattle.protocol.specs.Replica.Votes.{casts, new_cast, Cast}
 use Rattle.protocol.specs.declared.First2.{First2}
 use Rattle.protocol.specs.declared.Held.{Held}
@@ -21,17 +20,17 @@ use Rattle.law_serial.specs.Reads.{IsLastWrite, IsSure, SureNotes}
 use Rattle.law_serial.specs.Reads.IsSure.{First_value, Last_write}
 use Rattle.protocol.proofs.TestLemmas.{and_left}
 use Rattle.protocol.proofs.ListsLemmas.{IsIn-cases, IsIn-map, IsIn-flat_map, IsIn-one_when, at_same}
-use Rattle.law_steps.proofs.TakenLemmas.{true_false, no_base, dropped_taken, takes_above, up_to_none}
 use Rattle.law_steps.proofs.MailLemmas.{took_reach}
 use Rattle.law_steps.proofs.Reach.{Step, Reach, events_reach}
 use Rattle.law_steps.proofs.Reach.Step.{Stands, Client_acts, Replica_acts, Warden_acts}
 use Rattle.law_steps.proofs.Reach.From.{Begins, Next}
-use Rattle.law_steps.proofs.Induction.{from_to_all, from_parcels}
+use Rattle.law_steps.proofs.SendingLemmas.{from_to_all, from_parcels}
 use Rattle.law_safety.proofs.LocksLemmas.{sent_grows}
 use Rattle.law_safety.proofs.TruncationSettles.{CommitSent, commit_prepared}
 use Rattle.law_safety.proofs.ShapedBodies.{commit_sent}
 use Rattle.law_safety.proofs.InvariantHolds.{safe_reach}
-use Rattle.law_safety.proofs.BaseOfDrop.{drop_rising, sent_committed}
+use Rattle.law_safety.proofs.BaseOfDrop.{drop_rising}
+use Rattle.law_safety.proofs.CommitIsSent.{sent_committed}
 use Rattle.law_safety.proofs.BaseEntries.{rising_one}
 use Rattle.law_safety.proofs.HeldLemmas.HeldCase.{Is_first, Of_base, Of_commit, Of_put}
 use Rattle.law_safety.proofs.HeldLemmas.{last_is, first_is, HeldCase, latest_is, kept_taken}

@@ -1,20 +1,21 @@
 -- The committed executions are the serial run of their programs.
+use Rattle.law_safety.proofs.OneContent.{same_prepared}
 use Rattle.law_safety.proofs.OneExecution.{one_execution}
-use Rattle.law_safety.proofs.Invariants.{commit_needs_votes}
+use Rattle.law_safety.proofs.OneTry.{one_attempt}
+use Rattle.law_safety.proofs.CommitNeedsVotes.{commit_needs_votes}
 use Rattle.law_safety.proofs.LocksLemmas.{cast_found}
 use Rattle.law_safety.proofs.BaseEntries.{entry_wid}
-use Rattle.law_safety.specs.Outcome.{IsRisingByExec}
+use Rattle.law_safety.specs.Outcome.{IsRisingByExec, IsCommittedAs, IsCommittedList}
 use Rattle.law_steps.proofs.ReplicaFacts.{taking_reach}
-use Rattle.law_steps.proofs.TakenLemmas.{cast_above_none}
+use Rattle.law_steps.proofs.TakenLemmas.{cast_above_none, true_false}
 use Rattle.protocol.proofs.TestLemmas.{and_left}
 use Rattle.protocol.proofs.QuorumsLemmas.{quorums_meet}
-use Rattle.protocol.specs.Replica.Votes.{casts}
+use Rattle.protocol.specs.Replica.Votes.{casts, writes_key}
 use Rattle.protocol.specs.Words.{Commit, wid_before, Exec, Key, Version, Wid, Ending, Read, Content, Event, BaseEntry, Prepare, no_version, before, same_version, exec_before}
 use Rattle.morty_base.proofs.Orders.{before_total, exec_before_total}
 use Rattle.std.proofs.lemmas.List.Elements.{All-nil, All-cons, All-map}
-use Rattle.std.specs.Prelude.{MatchOption, ◌||◌, ◌&&◌, nat_lt}
+use Rattle.std.specs.Prelude.{MatchOption, ◌||◌, ◌&&◌, nat_lt, map, option_map, IsSome, IsNone, unwrap_or, pos}
 use Rattle.std.proofs.Common.{◌≡◌, ℕ, ℤ, ◌-◌, ◌<◌, inl, inr, refl, ap, sym, ◌∙◌, subst, true, false, Bool, cond, List, [], ◌∷◌, ◌++◌, append_assoc, take, length, Option, Some, None}
-use Rattle.std.specs.Prelude.{map, option_map, IsSome, IsNone, unwrap_or, pos}
 use Rattle.std.specs.List.{slice_get, All}
 use Rattle.std.proofs.lemmas.Option.{slice_get-map}
 use Rattle.std.proofs.lemmas.List.{append-nil}
@@ -26,7 +27,6 @@ use Rattle.txn_lang.specs.Laws.{values_of}
 use Rattle.txn_lang.proofs.SerialRuns.{replays_serial}
 use Rattle.txn_lang.proofs.Taking.{takes_answers}
 use Rattle.protocol.specs.Lists.{IsIn}
-use Rattle.protocol.specs.Replica.Votes.{writes_key}
 use Rattle.protocol.specs.Warden.Base.{entries_of}
 use Rattle.protocol.specs.Client.State.{Txn, Walk, Attempt, Answer, values, walk_at, no_walk, reads_of, is_done}
 use Rattle.protocol.specs.World.State.{Plan, World, rules, txns_of, first_world}
@@ -37,13 +37,8 @@ use Rattle.protocol_plans.specs.Scripted.{Start, Scripted, txn_of, plan_of, prog
 use Rattle.protocol_plans.proofs.Walking.{plans_have_programs}
 use Rattle.protocol.proofs.NamesLemmas.{version_is}
 use Rattle.protocol.proofs.ListsLemmas.{IsIn-left, IsIn-right, IsIn-cases}
-use Rattle.law_steps.proofs.TakenLemmas.{true_false}
 use Rattle.law_steps.proofs.Reach.{Reach, events_reach}
 use Rattle.law_steps.proofs.Reach.From.{Begins}
-use Rattle.law_safety.specs.Outcome.{IsCommittedAs, IsCommittedList}
-use Rattle.law_safety.proofs.TruncationSettles.{one_content}
-use Rattle.law_safety.proofs.InvariantHolds.{safe_reach}
-use Rattle.law_safety.proofs.OneExecution.{one_attempt}
 use Rattle.law_safety.proofs.CommittedList.{committed_list}
 use Rattle.law_serial.specs.Reads.{IsSure, IsLastWrite}
 use Rattle.law_serial.specs.Reads.IsSure.{First_value, Last_write}
@@ -209,7 +204,7 @@ module _ (s : Scripted) (positive : 0 < s.replicas) (events : List Event) where
       go (Last_write y l committed prepared last) =
           let d = listed.all y committed in
           let a = listed.only d.0 d.1 in
-          let k : l ≡ d.0.content = one_content (plan_of s) positive TheWorld (events_reach (plan_of s) first_world first_world Begins events) (safe_reach (plan_of s) positive TheWorld (events_reach (plan_of s) first_world first_world Begins events)) y l d.0.content prepared
+          let k : l ≡ d.0.content = same_prepared (plan_of s) TheWorld (events_reach (plan_of s) first_world first_world Begins events) y l d.0.content prepared
           (subst (λ (x : Exec). WasSent TheWorld (Prepare x d.0.content)) d.2 a.prepared) in
           let n = entry_wid y 1 l.writes (record { key = rd.key; wid = rd.wid; value = rd.value }) last.entry in
           let ver : d.0.exec.ver ≡ rd.wid.ver = ap (λ (x : Exec). x.ver) d.2 ∙ sym n.0 in

@@ -16,15 +16,15 @@ use Rattle.protocol_plans.specs.Scripted.{Scripted, plan_of}
 use Rattle.protocol.proofs.TestLemmas.{and_left}
 use Rattle.protocol.proofs.NamesLemmas.{key_is, version_is}
 use Rattle.protocol.proofs.ListsLemmas.{IsIn-left, IsIn-right}
+use Rattle.law_safety.proofs.OneContent.{same_prepared}
 use Rattle.law_steps.proofs.TakenLemmas.{true_false, IsIn-filter, IsIn-filtered}
 use Rattle.law_steps.proofs.VotesLemmas.{any_true, any_in}
 use Rattle.law_steps.proofs.Reach.{events_reach}
 use Rattle.law_steps.proofs.Reach.From.{Begins}
 use Rattle.law_safety.specs.Outcome.{IsRisingByExec}
 use Rattle.law_safety.proofs.BaseEntries.{entry_wid, entry_write, write_entry, rising_one}
-use Rattle.law_safety.proofs.TruncationSettles.{one_content}
-use Rattle.law_safety.proofs.InvariantHolds.{safe_reach}
-use Rattle.law_safety.proofs.CommittedList.{base_at_is, base_of_drop}
+use Rattle.law_safety.proofs.BaseOfWorld.{base_of_world}
+use Rattle.law_safety.proofs.BaseOfDrop.{base_of_drop}
 use Rattle.protocol_plans.specs.SerialOutcome.{first_map, programs_of, map_of, upto_version, has_entry, has_kept_write, IsSerialBase}
 use Rattle.law_serial.specs.Serial.{SerialBase, DropsAreSerial}
 use Rattle.law_serial.proofs.Lookups.{latest_found, split_at, rising_after}
@@ -81,7 +81,7 @@ module _ (s : Scripted) (positive : 0 < s.replicas) (events : List Event) (v : V
   Executions = committed_executions (plan_of s) (replay_from (plan_of s) first_world events)
 
   base : IsBase (replay_from (plan_of s) first_world events) v (base_at (plan_of s) (replay_from (plan_of s) first_world events) v)
-  base = (base_at_is (plan_of s) positive events v).holds
+  base = (base_of_world (plan_of s) positive events v).holds
 
   front : (later : List CommittedExec) × (committed_executions (plan_of s) (replay_from (plan_of s) first_world events) ≡ upto_version v (committed_executions (plan_of s) (replay_from (plan_of s) first_world events)) ++ later)
   front = upto_front v (committed_executions (plan_of s) (replay_from (plan_of s) first_world events)) (listed s positive events).rising
@@ -114,7 +114,7 @@ module _ (s : Scripted) (positive : 0 < s.replicas) (events : List Event) (v : V
       there = IsIn-filter (λ (c : CommittedExec). not (before v c.exec.ver)) Executions d.0 d.1 (ap not low)
 
       same : y.content ≡ d.0.content
-      same = one_content (plan_of s) positive TheWorld (events_reach (plan_of s) first_world first_world Begins events) (safe_reach (plan_of s) positive TheWorld (events_reach (plan_of s) first_world first_world Begins events)) y.exec y.content d.0.content y.prepared
+      same = same_prepared (plan_of s) TheWorld (events_reach (plan_of s) first_world first_world Begins events) y.exec y.content d.0.content y.prepared
           (subst (λ (x : Exec). WasSent TheWorld (Prepare x d.0.content)) d.2 ((listed s positive events).only d.0 d.1).prepared)
 
       mine : IsIn e (entries_of d.0.exec 1 d.0.content.writes)

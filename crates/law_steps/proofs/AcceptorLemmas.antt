@@ -1,5 +1,4 @@
-use Rattle.std.proofs.Common.{subst, sym}
-use Rattle.std.proofs.Common.{◌≡◌, ℕ, ◌<◌, ◌≤◌, ◌⊎◌, ◌≢◌, inl, inr, refl, ap, sym, ◌∙◌, subst, true, false, Bool, cond, List, [], ◌∷◌, ◌++◌, Option, Some, arith}
+use Rattle.std.proofs.Common.{subst, sym, ◌≡◌, ℕ, ◌<◌, ◌≤◌, ◌⊎◌, ◌≢◌, inl, inr, refl, ap, ◌∙◌, true, false, Bool, cond, List, [], ◌∷◌, ◌++◌, Option, Some, arith}
 use Rattle.std.specs.Prelude.{option_map, nat_le, ◌==◌}
 use Rattle.protocol.specs.Words.{Exec, Envelope, Body, Content, Choice, Accept, Vote, Prepare, Finalize, Ask, same_exec}
 use Rattle.protocol.specs.Lists.{IsIn, one_when}

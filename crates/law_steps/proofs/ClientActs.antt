@@ -1,9 +1,6 @@
 use Rattle.protocol.specs.Words.{Ending, Exec, Write, NodeId, Replica, Warden, Body, Content, Choice, Abandon, ToCommit, Vote, Get, Puts, Prepare, Finalize, Accepted, Decide, Voted}
-use Rattle.protocol.specs.Client.State.{content}
-use Rattle.std.proofs.Common.{Some}
-use Rattle.std.proofs.Common.{ℤ, ◌++◌}
-use Rattle.protocol.specs.Client.State.{values, walk}
-use Rattle.std.proofs.Common.{◌≡◌, ℕ, ◌<◌, ◌≤◌, ◌+◌, ◌⊎◌, refl, true, false, Bool, List, [], ◌∷◌, ◌++◌, Option, Some, None, length}
+use Rattle.protocol.specs.Client.State.{content, values, walk, Rules, ClientState, Phase, CountedVote, Decision}
+use Rattle.std.proofs.Common.{Some, ℤ, ◌++◌, ◌≡◌, ℕ, ◌<◌, ◌≤◌, ◌+◌, ◌⊎◌, refl, true, false, Bool, List, [], ◌∷◌, Option, None, length}
 use Rattle.std.specs.Prelude.{cond, nat_le, nat_lt, ◌&&◌, ◌==◌}
 use Rattle.std.specs.List.{list_any}
 use Rattle.protocol.specs.Lists.{IsIn}
@@ -11,7 +8,6 @@ use Rattle.protocol.specs.Replica.Votes.{is_commit_vote}
 use Rattle.protocol.specs.declared.Fate.{Fate}
 use Rattle.protocol.specs.declared.TallyOut.{TallyOut}
 use Rattle.protocol.specs.declared.TallyOut.TheVariants.{Wait, FastCommit, FastAbandon, Propose}
-use Rattle.protocol.specs.Client.State.{Rules, ClientState, Phase, CountedVote, Decision}
 use Rattle.protocol.specs.Quorums.{quorum}
 use Rattle.protocol.specs.Client.Counting.{tally_says, count_votes, is_final_vote, not_commit}
 use Rattle.protocol.specs.Client.Deciding.{content_for}
@@ -141,3 +137,8 @@ tally_tells n votes = all (nat_le n (count_votes is_commit_vote votes)) refl
     all : (t : Bool) → nat_le n (count_votes is_commit_vote votes) ≡ t → Tells n votes (cond t FastCommit (cond (nat_lt 0 (count_votes is_final_vote votes)) FastAbandon (cond (nat_lt 0 (count_votes not_commit votes) && nat_le (quorum n) (count_votes is_commit_vote votes)) (Propose ToCommit) (cond (nat_le (quorum n) (count_votes not_commit votes)) (Propose Abandon) Wait))))
     all true q = le_is _ _ q
     all false q = final _ refl
+
+-- a Finalize among the bodies of an act
+abbrev pub IsOpen : Phase → Type 0
+IsOpen (Prepared k v None a) = Unit {0}
+IsOpen _ = ⊥

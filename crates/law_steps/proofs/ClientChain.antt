@@ -12,7 +12,7 @@ use Rattle.protocol.specs.declared.Held.{Held}
 use Rattle.protocol.specs.declared.Fate.{Fate}
 use Rattle.protocol.specs.declared.TallyOut.{TallyOut}
 use Rattle.protocol.specs.declared.TallyOut.TheVariants.{Wait, FastCommit, FastAbandon, Propose}
-use Rattle.protocol.specs.Client.State.{turn_when, Rules, ClientState, Phase, Turn, CountedVote, Decision, Answer, idle, walk, content, may_put}
+use Rattle.protocol.specs.Client.State.{turn_when, Rules, ClientState, Phase, Turn, CountedVote, Decision, Answer, idle, walk, content, may_put, values}
 use Rattle.protocol.specs.Client.Step.{from_replica, Input, client_step, comes_running, comes_prepared, comes, told_running, on_ran, on_hurry, is_warden}
 use Rattle.protocol.specs.Client.Following.{Effect, prepare_if_idle, with_answer, rewind, follow_running, follow_prepared, note_running, note_prepared, place_of, answer_at, effect, note_at, note_on, next_label}
 use Rattle.protocol.specs.Quorums.{quorum}
@@ -25,7 +25,6 @@ use Rattle.protocol.specs.Client.Following.Effect.{Nothing, Sure, Follow}
 use Rattle.protocol.specs.Client.Step.Input.{Goes, Runs, Hurries, Comes}
 use Rattle.protocol.proofs.TestLemmas.{and_left, and_right, eqb_is, le_is, lt_is}
 use Rattle.protocol.proofs.NamesLemmas.{exec_is}
-use Rattle.protocol.specs.Client.State.{values}
 use Rattle.std.proofs.lemmas.Bool.Decides.{Decides-int_eq}
 use Rattle.law_steps.proofs.WriteStepLemmas.{stops, stops_silent, begins, goes_on, values_append, relabels, puts_writes, puts_alone, other_question, prepares_writes}
 use Rattle.law_steps.proofs.PhaseLemmas.{same_stage, running_stage, unprepared, quiet_puts, not_true, warden_is, quiet_question, quiet_append, between_is, aborted_is, running_under_way, prepared_under_way}

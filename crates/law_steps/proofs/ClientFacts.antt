@@ -1,4 +1,4 @@
-use Rattle.std.proofs.Common.{◌≡◌, ℕ, ◌⊎◌, inl, inr, refl, sym, subst, List, [], ◌∷◌, Option, Some, None, arith}
+use Rattle.std.proofs.Common.{◌≡◌, ℕ, ◌⊎◌, inl, inr, refl, sym, subst, List, [], ◌∷◌, Option, Some, None}
 use Rattle.protocol.specs.Words.{Exec, NodeId, Body, Content, Choice, Abandon, Get, Puts, Prepare, Finalize, Decide}
 use Rattle.protocol.specs.Lists.{IsIn}
 use Rattle.protocol.specs.Client.State.{Rules, ClientState, Phase, CountedVote, Decision}
@@ -6,11 +6,12 @@ use Rattle.protocol.specs.Client.Deciding.{content_for}
 use Rattle.protocol.specs.Client.State.Phase.{Between, Running, Prepared}
 use Rattle.protocol.specs.World.State.{Plan, World, rules}
 use Rattle.law_steps.specs.Executions.{Over, IsEarlier}
-use Rattle.law_steps.proofs.PhaseLemmas.{running_under_way, prepared_under_way}
-use Rattle.law_steps.proofs.ClientActs.{Act, IsQuiet, AllQuiet, IsRunning, IsUnprepared, IsUnderWay, SameStage, WasBegun}
+use Rattle.law_steps.proofs.PhaseLemmas.{running_under_way, prepared_under_way, running_between}
+use Rattle.law_steps.proofs.ClientActs.{Act, IsQuiet, AllQuiet, IsRunning, IsUnprepared, IsUnderWay, SameStage, WasBegun, IsOpen}
 use Rattle.law_steps.proofs.ClientActs.Act.{Quiet, Advances, Prepares, Counts, Proposes, Accepts, Decides, Gives_up, Learns}
 use Rattle.law_steps.proofs.Reach.{Reach, GotAt}
 use Rattle.law_steps.proofs.Induction.{ClientsSaid, clients_said_reach, clients_reach}
+use Rattle.law_steps.proofs.ExecutionsLemmas.{earlier_trans, earlier_itself}
 
 abbrev pub HasPrepared : Content → Phase → Type 0
 HasPrepared k (Prepared l v o a) = k ≡ l
@@ -23,11 +24,6 @@ HasProposed d o _ = ⊥
 abbrev pub At : (Phase → Type 0) → Exec → ClientState → Type 0
 At P x s = Over x s ⊎ ((x ≡ s.exec) × P s.phase)
 
-not_between : (p : Phase) → IsRunning p → p ≡ Between → ⊥
-not_between Between r e = r
-not_between (Running a b) r e = cc
-not_between (Prepared k v o a) r e = cc
-
 under_way_not : (p : Phase) → IsUnderWay p → p ≡ Between → ⊥
 under_way_not Between r e = r
 under_way_not (Running a b) r e = cc
@@ -37,9 +33,6 @@ under_way_not (Prepared k v o a) r e = cc
 over_same : (x : Exec) (s s' : ClientState) → s'.exec ≡ s.exec → (s.phase ≡ Between → s'.phase ≡ Between) → Over x s → Over x s'
 over_same x s s' e f (inl h) = inl (rw e h)
 over_same x s s' e f (inr h) = inr (rw e h.0, f h.1)
-
-pub earlier_trans : (x y z : Exec) → IsEarlier x y → IsEarlier y z → IsEarlier x z
-earlier_trans x y z p q = grind arith
 
 stage_between : (p q : Phase) → SameStage p q → p ≡ Between → q ≡ Between
 stage_between Between q s e = s
@@ -63,7 +56,7 @@ module _ (r : Rules) (Got : NodeId → Body → Type 0) (s s' : ClientState) (se
   act_over (Quiet e d g q) x o = over_same x s s' e (stage_between s.phase s'.phase g) o
   act_over (Advances u n l c d q) x (inl h) = inl (earlier_trans x s.exec s'.exec h l)
   act_over (Advances u n l c d q) x (inr h) = inl (rw h.0 l)
-  act_over (Prepares k n e d f q) x o = over_same x s s' e (λ b. absurd (not_between s.phase n b)) o
+  act_over (Prepares k n e d f q) x o = over_same x s s' e (λ b. absurd (running_between s.phase n b)) o
   act_over (Counts k vs acs j v a got b c e d f q) x o = over_same x s s' e (λ b. cc) o
   act_over (Proposes k vs acs d0 a b e d f q) x o = over_same x s s' e (λ b. cc) o
   act_over (Accepts k vs d0 acs j a got b c e d f q) x o = over_same x s s' e (λ b. cc) o
@@ -214,3 +207,20 @@ rec_reach p w q = clients_reach p CRec (λ c. record { own = λ u. absurd u; don
 
 pub client_facts_reach : (p : Plan) (w : World) → Reach p w → ClientsSaid CFact w
 client_facts_reach p w q = clients_said_reach p CFact (λ v t c s sent a. (said_stays (rules p c) (GotAt v c) (v.client c) s sent a, said_new (rules p c) (GotAt v c) (v.client c) s sent (rec_reach p v t c) a)) w q
+
+-- an execution that is neither over nor prepared is not the present one
+pub not_at : (P : Phase → Type 0) (x : Exec) (s : ClientState) → x ≡ s.exec → (s.phase ≡ Between → ⊥) → (P s.phase → ⊥) → At P x s → ⊥
+not_at P x s e b n (inl (inl h)) = earlier_itself s.exec (subst (λ z. IsEarlier z s.exec) e h)
+not_at P x s e b n (inl (inr h)) = b h.1
+not_at P x s e b n (inr h) = n h.1
+
+pub running_prepared : (k : Content) (p : Phase) → IsRunning p → HasPrepared k p → ⊥
+running_prepared k Between r h = h
+running_prepared k (Running a b) r h = h
+running_prepared k (Prepared l v o a) r h = r
+
+pub open_proposed : (d : Choice) (o : Option Content) (p : Phase) → IsOpen p → HasProposed d o p → ⊥
+open_proposed d o Between r h = h
+open_proposed d o (Running a b) r h = h
+open_proposed d o (Prepared l v None a) r h = h
+open_proposed d o (Prepared l v (Some e) a) r h = r

@@ -1,45 +1,22 @@
-use Rattle.std.proofs.Common.{◌≡◌, ℕ, ◌⊎◌, inl, inr, refl, ap, sym, ◌∙◌, subst, true, false, Bool, cond, List, ◌∷◌, Option, Some, None}
-use Rattle.std.specs.Prelude.{flat_map, option_map}
-use Rattle.protocol.specs.Words.{Exec, NodeId, Client, Replica, Warden, Envelope, Body, Vote, Voted}
-use Rattle.protocol.specs.Lists.{IsIn, upto}
-use Rattle.protocol.specs.Replica.Taken.{Handled, takes, after_taking}
-use Rattle.protocol.specs.Replica.Votes.{casts, cast_on, vote, Cast}
+-- One principle each for the facts of replicas, clients and wardens, and for what they said.
+use Rattle.std.proofs.Common.{◌≡◌, ℕ, ◌⊎◌, inl, inr, ap, sym, ◌∙◌, subst, true, List}
+use Rattle.std.specs.Prelude.{flat_map}
+use Rattle.protocol.specs.Words.{NodeId, Client, Replica, Warden, Envelope, Body}
+use Rattle.protocol.specs.Lists.{IsIn}
+use Rattle.protocol.specs.Replica.Taken.{Handled, after_taking}
 use Rattle.protocol.specs.Replica.Says.{says}
 use Rattle.protocol.specs.Client.State.{ClientState, fresh_client}
 use Rattle.protocol.specs.Warden.State.{Parcel, WardenState, fresh_warden}
-use Rattle.protocol.specs.Warden.State.Parcel.{To_all, To_client}
 use Rattle.protocol.specs.World.State.{Plan, World, rules, warden_rules, in_range}
 use Rattle.protocol.specs.World.Events.{at, to_all, parcel}
-use Rattle.protocol.proofs.ReplicaGrows.{cast_stays}
-use Rattle.protocol.proofs.ListsLemmas.{IsIn-cases, IsIn-map, IsIn-flat_map, at_cases, at_same}
+use Rattle.protocol.proofs.ListsLemmas.{IsIn-cases, at_cases, at_same}
 use Rattle.law_steps.proofs.Reach.{Step, Reach, GotAt, HeardAt}
 use Rattle.law_steps.proofs.ClientActs.{Act}
 use Rattle.law_steps.proofs.WardenActs.{WAct}
 use Rattle.law_steps.proofs.Reach.Step.{Stands, Client_acts, Replica_acts, Warden_acts}
 use Rattle.law_steps.proofs.Reach.From.{Begins, Next}
 use Rattle.law_steps.proofs.SaysLemmas.{spoken}
-
--- who sends to all replicas
-pub from_to_all : (n : ℕ) (node : NodeId) (bs : List Body) (e : Envelope) → IsIn e (flat_map (to_all n node) bs) → (e.from ≡ node) × IsIn e.body bs
-from_to_all n node bs e i =
-    let k = IsIn-flat_map (to_all n node) e bs i in
-    let l = IsIn-map (λ r. record { from = node; to = Replica r; body = k.0 }) e (upto n) k.2 in
-    (ap (λ (m : Envelope). m.from) l.2, subst (λ b. IsIn b bs) (sym (ap (λ (m : Envelope). m.body) l.2)) k.1)
-
-abbrev pub parcel_body : Parcel → Body
-parcel_body (To_all b) = b
-parcel_body (To_client c b) = b
-
-from_parcel : (n : ℕ) (node : NodeId) (a : Parcel) (e : Envelope) → IsIn e (parcel n node a) → (e.from ≡ node) × (e.body ≡ parcel_body a)
-from_parcel n node (To_all b) e i = let l = IsIn-map (λ r. record { from = node; to = Replica r; body = b }) e (upto n) i in (ap (λ (m : Envelope). m.from) l.2, ap (λ (m : Envelope). m.body) l.2)
-from_parcel n node (To_client c b) e (inl q) = (ap (λ (m : Envelope). m.from) q, ap (λ (m : Envelope). m.body) q)
-from_parcel n node (To_client c b) e (inr i) = absurd i
-
-pub from_parcels : (n : ℕ) (node : NodeId) (ps : List Parcel) (e : Envelope) → IsIn e (flat_map (parcel n node) ps) → (e.from ≡ node) × (a : Parcel) × IsIn a ps × (e.body ≡ parcel_body a)
-from_parcels n node ps e i =
-    let k = IsIn-flat_map (parcel n node) e ps i in
-    let l = from_parcel n node k.0 e k.2 in
-    (l.0, k.0, k.1, l.1)
+use Rattle.law_steps.proofs.SendingLemmas.{parcel_body, from_parcels, from_to_all}
 
 -- a fact F of what a replica said, which stays as it takes more, holds of each envelope of its in the mail
 pub record ReplicasSaid (F : ℕ → Handled → Body → Type 0) (w : World) : Type 0 where
@@ -76,27 +53,6 @@ pub replicas_said_reach : (p : Plan) (F : ℕ → Handled → Body → Type 0)
     → (w : World) → Reach p w → ReplicasSaid F w
 replicas_said_reach p F mono new _ Begins = record { said = λ e r i. absurd i }
 replicas_said_reach p F mono new _ (Next w w' r s) = replicas_said p F mono w w' (new w r) s (replicas_said_reach p F mono new w r)
-
--- a Vote in the mail is the vote that its sender's list still names
-abbrev pub IsVote : ℕ → Handled → Body → Type 0
-IsVote r h (Voted x v) = vote h x ≡ Some v
-IsVote r h _ = Unit {0}
-
-some_cast : (o : Option Cast) (v : Vote) → option_map (λ (y : Cast). y.vote) o ≡ Some v → (y : Cast) × (o ≡ Some y) × (y.vote ≡ v)
-some_cast None v e = cc
-some_cast (Some y) v e = (y, refl, cc)
-
-pub vote_stays : (h : Handled) (m : Envelope) (x : Exec) (v : Vote) → vote h x ≡ Some v → vote (after_taking h m) x ≡ Some v
-unfolding after_taking
-vote_stays h m x v e = go (takes h m.body)
-  where
-    go : (t : Bool) → vote (cond t (m ∷ h) h) x ≡ Some v
-    go true = let k = some_cast (cast_on x (casts h)) v e in rw (cast_stays h m x k.0 k.1) (ap Some k.2)
-    go false = e
-
-vote_mono : (r : ℕ) (h : Handled) (m : Envelope) (b : Body) → IsVote r h b → IsVote r (after_taking h m) b
-vote_mono r h m (Voted x v) e = vote_stays h m x v e
-vote_mono r h m _ e = tt
 
 -- the same of clients
 pub record ClientsSaid (G : ℕ → ClientState → Body → Type 0) (w : World) : Type 0 where

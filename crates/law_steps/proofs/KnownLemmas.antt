@@ -1,8 +1,7 @@
 use Rattle.std.proofs.Common.{◌≡◌, ℕ, ◌⊎◌, ◌≢◌, inl, inr, refl, ap, sym, ◌∙◌, subst, true, false, Bool, cond, List, [], ◌∷◌, ◌++◌, Option, Some, None}
 use Rattle.std.specs.Prelude.{option_map, nat_le, ◌&&◌, not, find}
-use Rattle.std.specs.Option.{is_none}
+use Rattle.std.specs.Option.{is_none, option_or}
 use Rattle.protocol.specs.Words.{Exec, Envelope, Body, Content, Kept, Choice, Abandon, ToCommit, Prepare, Finalize, Decide, same_exec}
-use Rattle.std.specs.Option.{option_or}
 use Rattle.std.specs.Bool.{then_some}
 use Rattle.protocol.specs.Lists.{IsIn, one_when}
 use Rattle.protocol.specs.Replica.Taken.{Handled, takes, after_taking, lacks_content, is_above, version_of, dropped}

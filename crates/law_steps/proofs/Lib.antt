@@ -15,3 +15,9 @@ pub mod ReplicaFacts
 pub mod WardenActs
 pub mod ClientFacts
 pub mod WardenFacts
+pub mod SendingLemmas
+pub mod Senders
+pub mod Origin
+pub mod TryRec
+pub mod ClientSent
+pub mod ExecutionsLemmas

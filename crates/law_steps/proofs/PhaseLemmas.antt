@@ -9,7 +9,7 @@ use Rattle.protocol.specs.Client.State.{Phase, CountedVote}
 use Rattle.protocol.specs.Client.State.Phase.{Between, Running, Prepared}
 use Rattle.protocol.specs.Client.Step.{is_warden}
 use Rattle.protocol.specs.Client.Attempts.{is_aborted, is_between, question}
-use Rattle.law_steps.proofs.ClientActs.{IsQuiet, AllQuiet, IsRunning, IsUnprepared, IsUnderWay, SameStage, IsAborted}
+use Rattle.law_steps.proofs.ClientActs.{IsQuiet, AllQuiet, IsRunning, IsUnprepared, IsUnderWay, SameStage, IsAborted, IsOpen}
 
 pub running_under_way : (p : Phase) → IsRunning p → IsUnderWay p
 running_under_way Between h = absurd h
@@ -65,3 +65,19 @@ aborted_is Aborted e = tt
 aborted_is Unbegun e = cc
 aborted_is Live e = cc
 aborted_is Committed e = cc
+
+pub running_between : (p : Phase) → IsRunning p → p ≡ Between → ⊥
+running_between Between r e = r
+running_between (Running a b) r e = cc
+running_between (Prepared k v o a) r e = cc
+
+pub open_under : (h : Phase) → IsOpen h → IsUnderWay h
+open_under Between h = absurd h
+open_under (Running a b) h = absurd h
+open_under (Prepared k v o a) h = tt
+
+pub open_between : (p : Phase) → IsOpen p → p ≡ Between → ⊥
+open_between Between r e = r
+open_between (Running a b) r e = r
+open_between (Prepared k v None a) r e = cc
+open_between (Prepared k v (Some d) a) r e = r

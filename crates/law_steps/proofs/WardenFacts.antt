@@ -13,7 +13,8 @@ use Rattle.protocol.proofs.NamesLemmas.{exec_is, same_exec_refl}
 use Rattle.law_steps.proofs.WardenActs.{WAct, told_round}
 use Rattle.law_steps.proofs.WardenActs.WAct.{Stills, Asks, Tolds, Accepts, Begins_cut, Counts_fenced, Ends_cut}
 use Rattle.law_steps.proofs.Reach.{Reach, HeardAt}
-use Rattle.law_steps.proofs.Induction.{WardensSaid, wardens_said_reach, wardens_reach, parcel_body}
+use Rattle.law_steps.proofs.Induction.{WardensSaid, wardens_said_reach, wardens_reach}
+use Rattle.law_steps.proofs.SendingLemmas.{parcel_body}
 
 -- the round found is in the list, and is that of x in view v
 pub round_found : (x : Exec) (v : ℕ) (rounds : List Round) (a : Round) → round_of x v rounds ≡ Some a → IsIn a rounds × (a.exec ≡ x) × (a.view ≡ v)

@@ -1,4 +1,4 @@
-use Rattle.law_safety.proofs.Invariants as proved
+use Rattle.law_safety.proofs.AbandonProposals as proved
 use Rattle.law_safety.proofs.abandon_proposals.Goals as goal
 
 pub returns : goal.returns

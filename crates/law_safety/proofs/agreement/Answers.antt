@@ -1,4 +1,4 @@
-use Rattle.law_safety.proofs.InvariantHolds as proved
+use Rattle.law_safety.proofs.AgreementLaw as proved
 use Rattle.law_safety.proofs.agreement.Goals as goal
 
 pub returns : goal.returns

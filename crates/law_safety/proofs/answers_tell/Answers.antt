@@ -1,4 +1,4 @@
-use Rattle.law_safety.proofs.Invariants as proved
+use Rattle.law_safety.proofs.AnswersTell as proved
 use Rattle.law_safety.proofs.answers_tell.Goals as goal
 
 pub returns : goal.returns

@@ -1,4 +1,4 @@
-use Rattle.law_safety.proofs.CommittedList as proved
+use Rattle.law_safety.proofs.BaseOfDrop as proved
 use Rattle.law_safety.proofs.base_of_drop.Goals as goal
 
 pub returns : goal.returns

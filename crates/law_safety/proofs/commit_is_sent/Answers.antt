@@ -1,4 +1,4 @@
-use Rattle.law_safety.proofs.Invariants as proved
+use Rattle.law_safety.proofs.CommitIsSent as proved
 use Rattle.law_safety.proofs.commit_is_sent.Goals as goal
 
 pub returns : goal.returns

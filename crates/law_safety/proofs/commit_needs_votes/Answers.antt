@@ -1,4 +1,4 @@
-use Rattle.law_safety.proofs.Invariants as proved
+use Rattle.law_safety.proofs.CommitNeedsVotes as proved
 use Rattle.law_safety.proofs.commit_needs_votes.Goals as goal
 
 pub returns : goal.returns

@@ -1,4 +1,4 @@
-use Rattle.law_safety.proofs.BaseOfDrop as proved
+use Rattle.law_safety.proofs.DropSettles as proved
 use Rattle.law_safety.proofs.drop_settles.Goals as goal
 
 pub returns : goal.returns

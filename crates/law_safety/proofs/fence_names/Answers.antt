@@ -1,4 +1,4 @@
-use Rattle.law_safety.proofs.BaseOfDrop as proved
+use Rattle.law_safety.proofs.FenceNames as proved
 use Rattle.law_safety.proofs.fence_names.Goals as goal
 
 pub returns : goal.returns

@@ -1,4 +1,4 @@
-use Rattle.law_safety.proofs.Invariants as proved
+use Rattle.law_safety.proofs.LocksHold as proved
 use Rattle.law_safety.proofs.locks_hold.Goals as goal
 
 pub returns : goal.returns

@@ -1,4 +1,4 @@
-use Rattle.law_safety.proofs.InvariantHolds as proved
+use Rattle.law_safety.proofs.NoConflict as proved
 use Rattle.law_safety.proofs.no_conflict.Goals as goal
 
 pub returns : goal.returns

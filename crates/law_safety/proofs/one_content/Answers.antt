@@ -1,4 +1,4 @@
-use Rattle.law_safety.proofs.Invariants as proved
+use Rattle.law_safety.proofs.OneContent as proved
 use Rattle.law_safety.proofs.one_content.Goals as goal
 
 pub returns : goal.returns

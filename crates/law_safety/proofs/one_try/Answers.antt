@@ -1,4 +1,4 @@
-use Rattle.law_safety.proofs.OneExecution as proved
+use Rattle.law_safety.proofs.OneTry as proved
 use Rattle.law_safety.proofs.one_try.Goals as goal
 
 pub returns : goal.returns

@@ -1,4 +1,4 @@
-use Rattle.law_safety.proofs.BaseOfDrop as proved
+use Rattle.law_safety.proofs.TwoVotes as proved
 use Rattle.law_safety.proofs.two_votes.Goals as goal
 
 pub returns : goal.returns

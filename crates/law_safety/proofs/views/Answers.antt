@@ -1,4 +1,4 @@
-use Rattle.law_safety.proofs.Invariants as proved
+use Rattle.law_safety.proofs.ViewsLaw as proved
 use Rattle.law_safety.proofs.views.Goals as goal
 
 pub returns : goal.returns

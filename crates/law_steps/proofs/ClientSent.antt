@@ -1,6 +1,6 @@
--- What a client's act sent: its proposals and its own decisions.
-use Rattle.std.proofs.Common.{◌≡◌, ℕ, ◌≤◌, inl, inr, ap, sym, ◌∙◌, subst, List, ◌∷◌, Option, None, []}
-use Rattle.protocol.specs.Words.{Exec, NodeId, Body, Content, Choice, Abandon, ToCommit, Finalize, Decide}
+-- What a client's act sent: its content, its proposals and its own decisions.
+use Rattle.std.proofs.Common.{◌≡◌, ℕ, ◌≤◌, inl, inr, ap, sym, ◌∙◌, subst, List, ◌∷◌, Option, None, [], ◌⊎◌}
+use Rattle.protocol.specs.Words.{Exec, NodeId, Body, Content, Choice, Abandon, ToCommit, Finalize, Decide, Prepare}
 use Rattle.protocol.specs.Lists.{IsIn}
 use Rattle.protocol.specs.Replica.Votes.{is_commit_vote}
 use Rattle.protocol.specs.Client.State.{Rules, ClientState, CountedVote}
@@ -8,7 +8,7 @@ use Rattle.protocol.specs.Quorums.{quorum}
 use Rattle.protocol.specs.Client.Counting.{count_votes}
 use Rattle.protocol.specs.Client.Deciding.{content_for}
 use Rattle.protocol.specs.Client.State.Phase.{Between, Prepared}
-use Rattle.law_steps.proofs.ClientActs.{Act, IsQuiet, AllQuiet, IsRunning, Reason}
+use Rattle.law_steps.proofs.ClientActs.{Act, IsQuiet, AllQuiet, IsRunning, Reason, IsOpen}
 use Rattle.law_steps.proofs.ClientActs.Act.{Quiet, Advances, Prepares, Counts, Proposes, Accepts, Decides, Gives_up, Learns}
 
 -- what a client proposed
@@ -68,3 +68,62 @@ module _ (r : Rules) (Got : NodeId → Body → Type 0) (s s' : ClientState) (se
       decide_same : (a b : Exec) (d : Choice) → b ≡ a → d ≡ Abandon → Decide a Abandon None ≡ Decide b d None
       decide_same a b d e f = cc
   decision_of (Learns j d0 k n got e d' f q) x d o i = absurd (in_none sent _ q i)
+
+-- a Prepare among the bodies of an act
+pub sent_prepare : (r : Rules) (Got : NodeId → Body → Type 0) (s s' : ClientState) (sent : List Body) → Act r Got s s' sent → (x : Exec) (k : Content) → IsIn (Prepare x k) sent → (x ≡ s.exec) × IsRunning s.phase × (sent ≡ Prepare x k ∷ [])
+sent_prepare r Got s s' sent a x k i = go a
+  where
+    quiet : (bs : List Body) → AllQuiet bs → IsIn (Prepare x k) bs → ⊥
+    quiet [] q i = i
+    quiet (b ∷ bs) q (inl e) = subst IsQuiet (sym e) q.0
+    quiet (b ∷ bs) q (inr i) = quiet bs q.1 i
+
+    none : sent ≡ [] → ⊥
+    none e = rw e at i
+
+    other : (b : Body) → sent ≡ b ∷ [] → (Prepare x k ≡ b → ⊥) → ⊥
+    other b e n = elim (rw e at i) [ inl z ↦ n z | inr z ↦ z ]
+
+    go : Act r Got s s' sent → (x ≡ s.exec) × IsRunning s.phase × (sent ≡ Prepare x k ∷ [])
+    go (Quiet e d g q) = absurd (quiet sent q i)
+    go (Advances u n l c d q) = absurd (none q)
+    go (Prepares k' n e d f q) = hit k' n q (rw q at i)
+      where
+        hit : (k' : Content) → IsRunning s.phase → sent ≡ Prepare s.exec k' ∷ [] → (Prepare x k ≡ Prepare s.exec k') ⊎ ⊥ → (x ≡ s.exec) × IsRunning s.phase × (sent ≡ Prepare x k ∷ [])
+        hit k' n q (inl z) = let a : x ≡ s.exec = cc in (a, n, q ∙ ap (λ (b : Body). b ∷ []) (sym z))
+        hit k' n q (inr z) = absurd z
+    go (Counts k vs acs j v a got b c e d f q) = absurd (none q)
+    go (Proposes k vs acs d0 a b e d f q) = absurd (other _ q (λ z. cc))
+    go (Accepts k vs d0 acs j a got b c e d f q) = absurd (none q)
+    go (Decides k vs o' acs d0 a w e d f q) = absurd (other _ q (λ z. cc))
+    go (Gives_up n e d f q) = absurd (other _ q (λ z. cc))
+    go (Learns j d0 k n got e d f q) = absurd (none q)
+
+pub sent_finalize : (r : Rules) (Got : NodeId → Body → Type 0) (s s' : ClientState) (sent : List Body) → Act r Got s s' sent → (x : Exec) (v : ℕ) (d : Choice) (o : Option Content) → IsIn (Finalize x v d o) sent → (x ≡ s.exec) × IsOpen s.phase × (sent ≡ Finalize x v d o ∷ [])
+sent_finalize r Got s s' sent a x v d o i = go a
+  where
+    quiet : (bs : List Body) → AllQuiet bs → IsIn (Finalize x v d o) bs → ⊥
+    quiet [] q i = i
+    quiet (b ∷ bs) q (inl e) = subst IsQuiet (sym e) q.0
+    quiet (b ∷ bs) q (inr i) = quiet bs q.1 i
+
+    none : sent ≡ [] → ⊥
+    none e = rw e at i
+
+    other : (b : Body) → sent ≡ b ∷ [] → (Finalize x v d o ≡ b → ⊥) → ⊥
+    other b e n = elim (rw e at i) [ inl z ↦ n z | inr z ↦ z ]
+
+    go : Act r Got s s' sent → (x ≡ s.exec) × IsOpen s.phase × (sent ≡ Finalize x v d o ∷ [])
+    go (Quiet e d g q) = absurd (quiet sent q i)
+    go (Advances u n l c d q) = absurd (none q)
+    go (Prepares k' n e d f q) = absurd (other _ q (λ z. cc))
+    go (Counts k vs acs j v a got b c e d f q) = absurd (none q)
+    go (Proposes k vs acs d0 a b e f g q) = hit k d0 (rw a tt) q (rw q at i)
+      where
+        hit : (k : Content) (d0 : Choice) → IsOpen s.phase → sent ≡ Finalize s.exec 0 d0 (content_for k d0) ∷ [] → (Finalize x v d o ≡ Finalize s.exec 0 d0 (content_for k d0)) ⊎ ⊥ → (x ≡ s.exec) × IsOpen s.phase × (sent ≡ Finalize x v d o ∷ [])
+        hit k d0 n q (inl z) = let a : x ≡ s.exec = cc in (a, n, q ∙ ap (λ (b : Body). b ∷ []) (sym z))
+        hit k d0 n q (inr z) = absurd z
+    go (Accepts k vs d0 acs j a got b c e d f q) = absurd (none q)
+    go (Decides k vs o' acs d0 a w e d f q) = absurd (other _ q (λ z. cc))
+    go (Gives_up n e d f q) = absurd (other _ q (λ z. cc))
+    go (Learns j d0 k n got e d f q) = absurd (none q)
