@@ -1,5 +1,6 @@
 -- What a call gave, against what is to be read.
 use Rattle.std.specs.Prelude.{◌≡◌, ℕ, ◌+◌, ◌==◌, List, count_by, drop, Result, Ok, Err}
+use Rattle.txn_lang.specs.declared.limits.TheConstants.{DEEPEST_BLOCK, LONGEST_EXPRESSION}
 use Rattle.txn_text.specs.declared.kinds.Token.{Token}
 use Rattle.txn_parse.specs.Symbols.{lexemes}
 use Rattle.txn_parse.specs.Tree.{Commands}
@@ -19,9 +20,9 @@ Gives view (Err NoMemory) read = Unit {0}
 abbrev pub last_line : List ℕ → ℕ
 last_line text = count_by (λ b. b == 10) text + 1
 
--- the block of a text's tokens from one on: 64 tokens for an outermost expression, 32 blocks in one another
+-- the block of a text's tokens from one on, within the limits
 abbrev pub block_of : List ℕ → List Token → ℕ → Found Commands
-block_of text tokens from = block_at (last_line text) 64 32 (lexemes text (drop from tokens))
+block_of text tokens from = block_at (last_line text) LONGEST_EXPRESSION DEEPEST_BLOCK (lexemes text (drop from tokens))
 
 -- a fault of the block, or want of memory
 abbrev pub IsBlockFault : List ℕ → List Token → ℕ → TextFault → Type 0

@@ -1,25 +1,21 @@
 -- The grammar of blocks, by cases on the tokens. Each token is seen as its symbol.
-use Rattle.std.specs.Prelude.{ℕ, zero, suc, ◌≤◌, ◌==◌, if◌then◌else◌, List, [], ◌∷◌, ◌++◌, length}
+use Rattle.std.specs.Prelude.{ℕ, zero, suc, ◌≤◌, List, [], ◌∷◌, ◌++◌, length}
 use Rattle.txn_lang.specs.declared.tree.BinOp.{BinOp}
 use Rattle.txn_lang.specs.declared.tree.BinOp.TheVariants as op
+use Rattle.txn_lang.specs.Limits.{operator_level, left_level}
 use Rattle.txn_text.specs.declared.kinds.Token.{Token}
 use Rattle.txn_parse.specs.declared.symbols.Symbol.TheVariants as symbol
 use Rattle.txn_parse.specs.Symbols.{Lexeme, lexeme}
 use Rattle.txn_parse.specs.Tree.{Term, Num, Local, Neg, Not, Bin, Command, Let, Read, Write, Print, If, Repeat, Abort, Commands, End, Then}
-use Rattle.txn_parse.specs.Pending.{level_of}
 
--- the level of a left operand: equal operators group to the left, and comparisons do not chain
-abbrev pub left_level : ℕ → ℕ
-left_level n = if n == 3 then 4 else n
-
--- an expression of at least this level: 1 `or`, 2 `and`, 3 comparisons, 4 sums, 5 products, 6 signs and `not`
+-- an expression of at least this level, where equal operators group to the left: 1 `or`, 2 `and`, 3 comparisons, 4 sums, 5 products, 6 signs and `not`
 pub data IsExpr : ℕ → List Lexeme → Term → Type 0 where
   number : (t : Token) → IsExpr 6 (lexeme symbol.Number t ∷ []) (Num t)
   local : (t : Token) → IsExpr 6 (lexeme symbol.Name t ∷ []) (Local t)
   negative : (t : Token) (ls : List Lexeme) (a : Term) → IsExpr 6 ls a → IsExpr 6 (lexeme (symbol.Op op.Sub) t ∷ ls) (Neg a)
   denied : (t : Token) (ls : List Lexeme) (a : Term) → IsExpr 6 ls a → IsExpr 6 (lexeme symbol.Not t ∷ ls) (Not a)
   grouped : (t u : Token) (ls : List Lexeme) (e : Term) → IsExpr 1 ls e → IsExpr 6 (lexeme symbol.OpenParen t ∷ (ls ++ lexeme symbol.CloseParen u ∷ [])) e
-  joined : (o : BinOp) (t : Token) (ls ms : List Lexeme) (a b : Term) → IsExpr (left_level (level_of o)) ls a → IsExpr (suc (level_of o)) ms b → IsExpr (level_of o) (ls ++ lexeme (symbol.Op o) t ∷ ms) (Bin o a b)
+  joined : (o : BinOp) (t : Token) (ls ms : List Lexeme) (a b : Term) → IsExpr (left_level o) ls a → IsExpr (suc (operator_level o)) ms b → IsExpr (operator_level o) (ls ++ lexeme (symbol.Op o) t ∷ ms) (Bin o a b)
   tighter : (n : ℕ) (ls : List Lexeme) (e : Term) → IsExpr (suc n) ls e → IsExpr n ls e
 
 -- none, or how many tokens an outermost expression may have and how many blocks may stand in one another

@@ -1,6 +1,7 @@
 -- What is true of the reading of a block: its tree is in the grammar, what is in the grammar is read, and a fault is
 -- at the first token with which nothing in the grammar begins.
 use Rattle.std.specs.Prelude.{◌≡◌, ◌⊎◌, ℕ, List, [], ◌∷◌, ◌++◌, Ok, Err}
+use Rattle.txn_lang.specs.declared.limits.TheConstants.{DEEPEST_BLOCK, LONGEST_EXPRESSION}
 use Rattle.txn_text.specs.declared.faults.FaultKind.TheVariants as fault
 use Rattle.txn_text.specs.declared.faults.TextFault.{TextFault}
 use Rattle.txn_text.specs.declared.faults.TextFault.TheVariants.{At}
@@ -37,11 +38,11 @@ IsFault G last ls f = IsFirstBad G last ls f ⊎ IsOneTooMany G ls f
 
 -- what is found is in the grammar, within the limits
 abbrev pub FoundIsDerived : Type 0
-FoundIsDerived = (last : ℕ) (ls : List Lexeme) (b : Commands) (rest : List Lexeme) → block_at last 64 32 ls ≡ Ok (b, rest) → (front : List Lexeme) × (ls ≡ front ++ rest) × IsBlock (Within 64 32) front b
+FoundIsDerived = (last : ℕ) (ls : List Lexeme) (b : Commands) (rest : List Lexeme) → block_at last LONGEST_EXPRESSION DEEPEST_BLOCK ls ≡ Ok (b, rest) → (front : List Lexeme) × (ls ≡ front ++ rest) × IsBlock (Within LONGEST_EXPRESSION DEEPEST_BLOCK) front b
 
 -- what is in the grammar, within the limits, is found, whatever follows it
 abbrev pub DerivedIsFound : Type 0
-DerivedIsFound = (last : ℕ) (front rest : List Lexeme) (b : Commands) → IsBlock (Within 64 32) front b → block_at last 64 32 (front ++ rest) ≡ Ok (b, rest)
+DerivedIsFound = (last : ℕ) (front rest : List Lexeme) (b : Commands) → IsBlock (Within LONGEST_EXPRESSION DEEPEST_BLOCK) front b → block_at last LONGEST_EXPRESSION DEEPEST_BLOCK (front ++ rest) ≡ Ok (b, rest)
 
 -- no tokens stand for two blocks
 abbrev pub HasOneTree : Type 0
@@ -49,4 +50,4 @@ HasOneTree = (lim lim' : Limits) (ls : List Lexeme) (b b' : Commands) → IsBloc
 
 -- each fault is the first one
 abbrev pub FaultIsFirst : Type 0
-FaultIsFirst = (last : ℕ) (ls : List Lexeme) (f : TextFault) → block_at last 64 32 ls ≡ Err f → IsFault (IsBlock Free) last ls f
+FaultIsFirst = (last : ℕ) (ls : List Lexeme) (f : TextFault) → block_at last LONGEST_EXPRESSION DEEPEST_BLOCK ls ≡ Err f → IsFault (IsBlock Free) last ls f

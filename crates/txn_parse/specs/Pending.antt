@@ -1,7 +1,8 @@
 -- An expression while it is read from left to right: what is open in it, and the operand that is there.
-use Rattle.std.specs.Prelude.{ℕ, Bool, true, false, not, ◌&&◌, ◌||◌, ◌==◌, nat_lt, nat_le, Option, Some, None, if◌then◌else◌}
+use Rattle.std.specs.Prelude.{Bool, true, false, not, ◌&&◌, ◌||◌, ◌==◌, nat_lt, nat_le, Option, Some, None, if◌then◌else◌}
 use Rattle.txn_lang.specs.declared.tree.BinOp.{BinOp}
-use Rattle.txn_lang.specs.declared.tree.BinOp.TheVariants.{Or, And, Eq, Ne, Lt, Le, Gt, Ge, Add, Sub, Mul, Div, Rem}
+use Rattle.txn_lang.specs.declared.tree.BinOp.TheVariants.{Sub}
+use Rattle.txn_lang.specs.Limits.{operator_level}
 use Rattle.txn_text.specs.declared.kinds.Token.{Token}
 use Rattle.txn_parse.specs.declared.symbols.Symbol.{Symbol}
 use Rattle.txn_parse.specs.declared.symbols.Symbol.TheVariants as symbol
@@ -12,22 +13,6 @@ use Rattle.txn_parse.specs.declared.pending.Reading.{Reading}
 use Rattle.txn_parse.specs.declared.pending.Reading.TheVariants as reading
 use Rattle.txn_parse.specs.Symbols.{Lexeme}
 use Rattle.txn_parse.specs.Tree.{Term, Num, Local, Neg, Not, Bin, term}
-
--- how tight an operator binds
-abbrev pub level_of : BinOp → ℕ
-level_of Or = 1
-level_of And = 2
-level_of Eq = 3
-level_of Ne = 3
-level_of Lt = 3
-level_of Le = 3
-level_of Gt = 3
-level_of Ge = 3
-level_of Add = 4
-level_of Sub = 4
-level_of Mul = 5
-level_of Div = 5
-level_of Rem = 5
 
 -- what is open, the innermost first: a sign, a `not`, a parenthesis, or an operator behind its left operand
 pub data Opened : Type 0 where
@@ -65,7 +50,7 @@ give held e = Has e held
 -- operators that bind at least as tight take the operand, and the new one follows
 abbrev pub joined : Opened → Term → BinOp → Opened
 joined (Infix a earlier up) e op =
-    if nat_le (level_of op) (level_of earlier) then joined up (Bin earlier a e) op
+    if nat_le (operator_level op) (operator_level earlier) then joined up (Bin earlier a e) op
     else Infix e op (Infix a earlier up)
 joined held e op = Infix e op held
 
@@ -89,7 +74,7 @@ has_paren held = false
 
 -- a comparison is open that no weaker operator ends
 abbrev pub compares : Opened → Bool
-compares (Infix a op up) = level_of op == 3 || (nat_lt 3 (level_of op) && compares up)
+compares (Infix a op up) = operator_level op == 3 || (nat_lt 3 (operator_level op) && compares up)
 compares held = false
 
 abbrev pub is_minus : BinOp → Bool
@@ -106,7 +91,7 @@ starts_operand s = false
 
 -- behind an operand: an operator, where comparisons do not chain, or the end of a parenthesis
 abbrev pub goes_on_behind : Opened → Symbol → Bool
-goes_on_behind held (symbol.Op op) = not (level_of op == 3 && compares held)
+goes_on_behind held (symbol.Op op) = not (operator_level op == 3 && compares held)
 goes_on_behind held symbol.CloseParen = has_paren held
 goes_on_behind held s = false
 

@@ -1,14 +1,16 @@
 ghost use Rattle.std.specs.Prelude.{◌≡◌, ◌≤◌, ◌<◌, length, IfOk};
+ghost use Rattle.txn_lang.specs.declared.limits.TheConstants.{LONGEST_EXPRESSION};
 ghost use Rattle.txn_parse.specs.Tree.{command, commands};
 ghost use Rattle.txn_parse.specs.Symbols.{lexemes};
 ghost use Rattle.txn_parse.specs.Reading.{else_at, if_at, repeat_at, stmt_at, block_at};
 ghost use Rattle.txn_parse.specs.Gives.{Gives};
 
-use crate::expressions::{expression, syntax, take};
+use crate::expressions::expression;
 use crate::statements::{
     let_statement, print_statement, read_statement, separator, write_statement,
 };
 use crate::symbols::{Symbol, is, symbol_of};
+use crate::tokens::{syntax, take};
 use crate::tree::{RawBlock, RawStmt};
 use morty_base::List;
 use std::alloc::Global;
@@ -22,9 +24,9 @@ fn else_block<'a>(
     text: &[u8],
     last: u32,
     toks: &'a [Token],
-    depth: u32,
+    depth: u64,
 ) -> Result<(RawBlock, &'a [Token]), TextFault>
-    ensures found { Gives (λ x. (commands x.0, lexemes text.now x.1.now)) result (else_at (block_at last 64 depth) (lexemes text.now toks.now)) }
+    ensures found { Gives (λ x. (commands x.0, lexemes text.now x.1.now)) result (else_at (block_at last LONGEST_EXPRESSION depth) (lexemes text.now toks.now)) }
     ensures no_longer { IfOk result (λ x. length x.1.now ≤ length toks.now) }
 {
     match toks.split_first() {
@@ -48,9 +50,9 @@ fn if_statement<'a>(
     text: &[u8],
     last: u32,
     toks: &'a [Token],
-    depth: u32,
+    depth: u64,
 ) -> Result<(RawStmt, &'a [Token]), TextFault>
-    ensures found { Gives (λ x. (command x.0, lexemes text.now x.1.now)) result (if_at last 64 (block_at last 64 depth) (lexemes text.now toks.now)) }
+    ensures found { Gives (λ x. (command x.0, lexemes text.now x.1.now)) result (if_at last LONGEST_EXPRESSION (block_at last LONGEST_EXPRESSION depth) (lexemes text.now toks.now)) }
     ensures no_longer { IfOk result (λ x. length x.1.now ≤ length toks.now) }
 {
     let (e, rest) = expression(alloc, text, last, toks)?;
@@ -67,9 +69,9 @@ fn repeat_statement<'a>(
     text: &[u8],
     last: u32,
     toks: &'a [Token],
-    depth: u32,
+    depth: u64,
 ) -> Result<(RawStmt, &'a [Token]), TextFault>
-    ensures found { Gives (λ x. (command x.0, lexemes text.now x.1.now)) result (repeat_at last (block_at last 64 depth) (lexemes text.now toks.now)) }
+    ensures found { Gives (λ x. (command x.0, lexemes text.now x.1.now)) result (repeat_at last (block_at last LONGEST_EXPRESSION depth) (lexemes text.now toks.now)) }
     ensures no_longer { IfOk result (λ x. length x.1.now ≤ length toks.now) }
 {
     let (times, rest) = take(text, last, toks, Symbol::Number)?;
@@ -85,9 +87,9 @@ fn statement<'a>(
     text: &[u8],
     last: u32,
     toks: &'a [Token],
-    depth: u32,
+    depth: u64,
 ) -> Result<(RawStmt, &'a [Token]), TextFault>
-    ensures found { Gives (λ x. (command x.0, lexemes text.now x.1.now)) result (stmt_at last 64 (block_at last 64 depth) (lexemes text.now toks.now)) }
+    ensures found { Gives (λ x. (command x.0, lexemes text.now x.1.now)) result (stmt_at last LONGEST_EXPRESSION (block_at last LONGEST_EXPRESSION depth) (lexemes text.now toks.now)) }
     ensures shorter { IfOk result (λ x. length x.1.now < length toks.now) }
 {
     let Some((token, rest)) = toks.split_first() else {
@@ -112,9 +114,9 @@ pub fn block<'a>(
     text: &[u8],
     last: u32,
     toks: &'a [Token],
-    depth: u32,
+    depth: u64,
 ) -> Result<(RawBlock, &'a [Token]), TextFault>
-    ensures found { Gives (λ x. (commands x.0, lexemes text.now x.1.now)) result (block_at last 64 depth (lexemes text.now toks.now)) }
+    ensures found { Gives (λ x. (commands x.0, lexemes text.now x.1.now)) result (block_at last LONGEST_EXPRESSION depth (lexemes text.now toks.now)) }
     ensures shorter { IfOk result (λ x. length x.1.now < length toks.now) }
 {
     let (brace, behind) = take(text, last, toks, Symbol::OpenBlock)?;

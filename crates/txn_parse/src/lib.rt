@@ -1,4 +1,14 @@
 //! The blocks of programs, read from tokens by the grammar: a tree that still has the text's tokens, or the one fault.
+//!
+//! The definitions, in the order in which they build on each other: the symbol of a token (`Symbols`), trees with tokens
+//! (`Tree`), an expression while it is read (`Pending`), the grammar (`Grammar`), reading from left to right (`Reading`),
+//! what is true of it (`Laws`), and what a call gives (`Gives`).
+//!
+//! The proof: what is open in an expression stands for the tokens that were read (`PendingLemmas`); a block's statements
+//! are read one after another (`ReadingLemmas`); what is within limits is in the grammar without them (`LimitsLemmas`).
+//! So what a reader finds is in the grammar, and its fault is at the first bad token (`Sound`, then `SoundExpr`,
+//! `SoundStmts`, `Separators` and `SoundBlocks`); and what is in the grammar is found (`CompleteExpr`, `CompleteBlocks`). Both give
+//! the laws of whole blocks (`Laws`).
 #![tactic(auto)]
 
 mod blocks;
@@ -7,13 +17,9 @@ mod pending;
 mod program;
 mod statements;
 mod symbols;
+mod tokens;
 mod tree;
 
 pub use program::{grammar_laws, parse_prog};
 pub use symbols::{Symbol, symbol_of};
 pub use tree::{RawBlock, RawExpr, RawProg, RawStmt};
-
-#[cfg(test)]
-mod grouping_tests;
-#[cfg(test)]
-mod tests;

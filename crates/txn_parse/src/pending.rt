@@ -2,14 +2,14 @@ ghost use Rattle.std.specs.Prelude.{◌≡◌, IfOk};
 ghost use Rattle.std.specs.Option.{option_map};
 ghost use Rattle.txn_parse.specs.Tree.{term, Bin};
 ghost use Rattle.txn_parse.specs.Symbols.{lexeme};
-ghost use Rattle.txn_parse.specs.Pending.{level_of, opened, state_of, give, joined, closed, has_paren, compares, goes_on, goes_on_behind, starts_operand, operand_step, operator_step, step, whole, ended};
+ghost use Rattle.txn_parse.specs.Pending.{opened, state_of, give, joined, closed, has_paren, compares, goes_on, goes_on_behind, starts_operand, operand_step, operator_step, step, whole, ended};
 
 use crate::symbols::Symbol;
 use crate::tree::RawExpr;
 use morty_base::NoMemory;
 use sqlite_items::Boxed as Box;
 use std::alloc::Global;
-use txn_lang::BinOp;
+use txn_lang::{BinOp, operator_level};
 use txn_text::Token;
 
 /// What is open in an expression that is being read, the innermost first: a sign, a `not`, a parenthesis, or an
@@ -28,19 +28,6 @@ pub enum Open {
 pub enum Reading {
     Awaits(Open),
     Has(RawExpr, Open),
-}
-
-/// How tight an operator binds.
-pub fn level_of(op: BinOp) -> u8
-    ensures { result ≡ level_of op }
-{
-    match op {
-        BinOp::Or => 1,
-        BinOp::And => 2,
-        BinOp::Eq | BinOp::Ne | BinOp::Lt | BinOp::Le | BinOp::Gt | BinOp::Ge => 3,
-        BinOp::Add | BinOp::Sub => 4,
-        BinOp::Mul | BinOp::Div | BinOp::Rem => 5,
-    }
 }
 
 fn pair(alloc: Global, op: BinOp, a: RawExpr, b: RawExpr) -> Result<RawExpr, NoMemory>
@@ -66,7 +53,7 @@ fn join(held: Open, e: RawExpr, op: BinOp, alloc: Global) -> Result<Open, NoMemo
 {
     match held {
         Open::Infix(a, earlier, rest) => {
-            if level_of(op) <= level_of(earlier) {
+            if operator_level(op) <= operator_level(earlier) {
                 join(rest.into_inner(), pair(alloc, earlier, a, e)?, op, alloc)
             } else {
                 let below = Box::new(alloc, Open::Infix(a, earlier, rest))?;
@@ -114,7 +101,7 @@ fn compares(held: &Open) -> bool
 {
     match held {
         Open::Infix(_, op, rest) => {
-            let level = level_of(*op);
+            let level = operator_level(*op);
             level == 3 || (level > 3 && compares(rest.get()))
         }
         _ => false,
@@ -135,7 +122,7 @@ fn goes_on_behind(held: &Open, symbol: Symbol) -> bool
     ensures { result ≡ goes_on_behind (opened held.now) symbol }
 {
     match symbol {
-        Symbol::Op(op) => !(level_of(op) == 3 && compares(held)),
+        Symbol::Op(op) => !(operator_level(op) == 3 && compares(held)),
         Symbol::CloseParen => has_paren(held),
         _ => false,
     }

@@ -1,4 +1,5 @@
 ghost use Rattle.std.specs.Prelude.{◌≡◌, ◌+◌, ◌-◌, ◌<◌, ◌≤◌, ◌++◌, length, take, drop, List, Some, Ok, IfOk, IfErr, slice_get};
+ghost use Rattle.txn_lang.specs.declared.limits.TheConstants.{LONGEST_EXPRESSION};
 ghost use Rattle.txn_parse.specs.Tree.{Commands, commands};
 ghost use Rattle.txn_parse.specs.Symbols.{Lexeme, lexemes};
 ghost use Rattle.txn_parse.specs.Grammar.{Within, IsBlock};
@@ -8,10 +9,11 @@ ghost use Rattle.txn_parse.specs.Laws.{FoundIsDerived, DerivedIsFound, HasOneTre
 use crate::blocks::block;
 use crate::tree::RawProg;
 use std::alloc::Global;
+use txn_lang::DEEPEST_BLOCK;
 use txn_text::{TextFault, Token};
 
 fn last_line(text: &[u8]) -> u32
-    requires { length text.now < 4294967295 }
+    requires { length text.now < u32.MAX }
     ensures { result ≡ last_line text.now }
 {
     let feeds = text.iter().filter(|byte| **byte == b'\n').count();
@@ -25,7 +27,7 @@ pub fn parse_prog(
     toks: &[Token],
     from: usize,
 ) -> Result<(RawProg, usize), TextFault>
-    requires short { length text.now < 4294967295 }
+    requires short { length text.now < u32.MAX }
     requires within { from ≤ length toks.now }
 
     ensures exact { Gives (λ x. (commands x.0.body, lexemes text.now (drop x.1 toks.now))) result (block_of text.now toks.now from) }
@@ -33,13 +35,13 @@ pub fn parse_prog(
     ensures place { IfOk result (λ x. (from < x.1) × (x.1 ≤ length toks.now)) }
 
     // The tree is in the grammar.
-    ensures derived { IfOk result (λ x. IsBlock (Within 64 32) (lexemes text.now (take (x.1 - from) (drop from toks.now))) (commands x.0.body)) }
+    ensures derived { IfOk result (λ x. IsBlock (Within LONGEST_EXPRESSION DEEPEST_BLOCK) (lexemes text.now (take (x.1 - from) (drop from toks.now))) (commands x.0.body)) }
     // Each fault is the first one.
     ensures fault { IfErr result (IsBlockFault text.now toks.now from) }
 {
     let last = last_line(text);
     let rest = &toks[from..];
-    let (body, behind) = block(alloc, text, last, rest, 32)?;
+    let (body, behind) = block(alloc, text, last, rest, DEEPEST_BLOCK)?;
     Ok((
         RawProg {
             brace: toks[from],

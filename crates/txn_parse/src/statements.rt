@@ -1,11 +1,13 @@
 ghost use Rattle.std.specs.Prelude.{◌≡◌, ◌≤◌, ◌<◌, length, IfOk};
+ghost use Rattle.txn_lang.specs.declared.limits.TheConstants.{LONGEST_EXPRESSION};
 ghost use Rattle.txn_parse.specs.Tree.{command};
 ghost use Rattle.txn_parse.specs.Symbols.{lexemes};
 ghost use Rattle.txn_parse.specs.Reading.{let_at, read_at, write_at, print_at, more_at, separator_at};
 ghost use Rattle.txn_parse.specs.Gives.{Gives};
 
-use crate::expressions::{expression, syntax, take};
+use crate::expressions::expression;
 use crate::symbols::{Symbol, is, symbol_of};
+use crate::tokens::{syntax, take};
 use crate::tree::RawStmt;
 use std::alloc::Global;
 use txn_text::{TextFault, Token};
@@ -18,7 +20,7 @@ pub fn let_statement<'a>(
     last: u32,
     toks: &'a [Token],
 ) -> Result<(RawStmt, &'a [Token]), TextFault>
-    ensures found { Gives (λ x. (command x.0, lexemes text.now x.1.now)) result (let_at last 64 (lexemes text.now toks.now)) }
+    ensures found { Gives (λ x. (command x.0, lexemes text.now x.1.now)) result (let_at last LONGEST_EXPRESSION (lexemes text.now toks.now)) }
     ensures no_longer { IfOk result (λ x. length x.1.now ≤ length toks.now) }
 {
     let (local, rest) = take(text, last, toks, Symbol::Name)?;
@@ -35,7 +37,7 @@ pub fn read_statement<'a>(
     last: u32,
     toks: &'a [Token],
 ) -> Result<(RawStmt, &'a [Token]), TextFault>
-    ensures found { Gives (λ x. (command x.0, lexemes text.now x.1.now)) result (read_at last 64 (lexemes text.now toks.now)) }
+    ensures found { Gives (λ x. (command x.0, lexemes text.now x.1.now)) result (read_at last LONGEST_EXPRESSION (lexemes text.now toks.now)) }
     ensures no_longer { IfOk result (λ x. length x.1.now ≤ length toks.now) }
 {
     let (local, rest) = take(text, last, toks, Symbol::Name)?;
@@ -54,7 +56,7 @@ pub fn write_statement<'a>(
     last: u32,
     toks: &'a [Token],
 ) -> Result<(RawStmt, &'a [Token]), TextFault>
-    ensures found { Gives (λ x. (command x.0, lexemes text.now x.1.now)) result (write_at last 64 (lexemes text.now toks.now)) }
+    ensures found { Gives (λ x. (command x.0, lexemes text.now x.1.now)) result (write_at last LONGEST_EXPRESSION (lexemes text.now toks.now)) }
     ensures no_longer { IfOk result (λ x. length x.1.now ≤ length toks.now) }
 {
     let (table, rest) = take(text, last, toks, Symbol::Name)?;
@@ -73,7 +75,7 @@ pub fn print_statement<'a>(
     last: u32,
     toks: &'a [Token],
 ) -> Result<(RawStmt, &'a [Token]), TextFault>
-    ensures found { Gives (λ x. (command x.0, lexemes text.now x.1.now)) result (print_at last 64 (lexemes text.now toks.now)) }
+    ensures found { Gives (λ x. (command x.0, lexemes text.now x.1.now)) result (print_at last LONGEST_EXPRESSION (lexemes text.now toks.now)) }
     ensures no_longer { IfOk result (λ x. length x.1.now ≤ length toks.now) }
 {
     let (e, rest) = expression(alloc, text, last, toks)?;

@@ -1,13 +1,14 @@
 use Rattle.std.proofs.Common.{◌≡◌, ◌∙◌, ◌≤◌, ◌+◌, ◌-◌, ℕ, suc, Bool, sym, ap, arith, length, map, Ok, List, [], ◌∷◌, ◌++◌, false, true, Bor}
 use Rattle.std.proofs.lemmas.List.{length-map, map_push, length_push}
 use Rattle.std.proofs.lemmas.Result.{err_from_is_err_and}
+use Rattle.txn_lang.specs.declared.limits.TheConstants.{LONGEST_EXPRESSION}
 use Rattle.txn_text.specs.declared.kinds.Token.{Token}
 use Rattle.txn_parse.specs.declared.tree.RawStmt.{RawStmt}
 use Rattle.txn_parse.specs.declared.tree.RawBlock.{RawBlock}
 use Rattle.txn_parse.specs.Tree.{Command, Commands, command, commands, commands_of, before, End, Then}
 use Rattle.txn_parse.specs.Symbols.{Lexeme, lexemes}
 use Rattle.txn_parse.specs.Reading.{Found, stmts_at, separator_at}
-use Rattle.txn_parse.proofs.Loops.{with_stmts, before_push, with_stmts_push, stmts_err, stmts_separator_err, stmts_more, stmts_last, gives_err, brace_err, brace_deep, inner, loop_state}
+use Rattle.txn_parse.proofs.ReadingLemmas.{with_stmts, before_push, with_stmts_push, stmts_err, stmts_separator_err, stmts_more, stmts_last, gives_err, brace_err, brace_deep, inner, loop_state}
 use Rattle.txn_parse.proofs.blocks.+blocks.Goals as goal
 
 abbrev token_view : List ℕ → Token × Bor (List Token) → Token × List Lexeme
@@ -30,11 +31,11 @@ pub block-returns-in_err-brace-clause-found : goal.block-returns-in_err-brace-cl
 block-returns-in_err-brace-clause-found t c =
     let text = c.args.text.now in
     let p = err_from_is_err_and c.from_residual.result c.from_residual.ensures.1 in
-    rw (p.1, p.2) (gives_err (token_view text) (block_view text) _ _ _ (λ f is. brace_err c.args.last 64 c.args.depth (lexemes text c.args.toks.now) f is) c.in_err-brace.ensures.found)
+    rw (p.1, p.2) (gives_err (token_view text) (block_view text) _ _ _ (λ f is. brace_err c.args.last LONGEST_EXPRESSION c.args.depth (lexemes text c.args.toks.now) f is) c.in_err-brace.ensures.found)
 
 pub block-returns-then-depth-eq0-clause-found : goal.block-returns-then-depth-eq0-clause-found
 block-returns-then-depth-eq0-clause-found t c =
-    brace_deep c.args.last 64 c.args.depth (lexemes c.args.text.now c.args.toks.now) _ c.if-depth-eq0.true c.in_ok-brace.ensures.found
+    brace_deep c.args.last LONGEST_EXPRESSION c.args.depth (lexemes c.args.text.now c.args.toks.now) _ c.if-depth-eq0.true c.in_ok-brace.ensures.found
 
 pub block-returns-in_err-stmt-clause-found : goal.block-returns-in_err-stmt-clause-found
 block-returns-in_err-stmt-clause-found t c =

@@ -10,9 +10,9 @@ use Rattle.txn_parse.specs.Pending.{State, Awaits, Nothing, goes_on, step, ended
 use Rattle.txn_parse.specs.Grammar.{Free, Within, IsOutermost}
 use Rattle.txn_parse.specs.Reading.{ended_at, expr_from, expr_at}
 use Rattle.txn_parse.specs.Laws.{Begins}
-use Rattle.txn_parse.proofs.Standing.{StandsState, Completes, state_completes, step_stands, ended_stands}
-use Rattle.txn_parse.proofs.Deriving.{one}
-use Rattle.txn_parse.proofs.Finding.{SameFirst, Answers, begins_same, ends_same}
+use Rattle.txn_parse.proofs.PendingLemmas.{StandsState, Completes, state_completes, step_stands, ended_stands}
+use Rattle.txn_parse.proofs.CompleteExpr.{one}
+use Rattle.txn_parse.proofs.Sound.{SameFirst, Answers, begins_same, ends_same}
 
 begins_with : (front : List Lexeme) → Completes front → Begins (IsOutermost Free) front
 begins_with front c = (c.0, c.1, record { short = tt; derived = c.2 })

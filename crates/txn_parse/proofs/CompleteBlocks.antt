@@ -8,8 +8,8 @@ use Rattle.txn_parse.specs.Symbols.{Lexeme, lexeme}
 use Rattle.txn_parse.specs.Tree.{Term, Command, Let as SetTo, Read as ReadOf, Write as WriteOf, Print as PrintOf, If as Choice, Repeat as Loop, Commands, End}
 use Rattle.txn_parse.specs.Grammar.{Limits, Within, MayOpen, inside, IsOutermost, IsStmt, sets, reads, writes, prints, chooses, chooses_else, repeats, aborts, IsBlock, braced, IsStmts, last as last_one, last_ended, more}
 use Rattle.txn_parse.specs.Reading.{Found, Reader, ◌>>=◌, take_at, expr_at, let_at, read_at, write_at, print_at, else_at, if_at, repeat_at, stmt_at, separator_at, with_stmt, stmts_at, block_at}
-use Rattle.txn_parse.proofs.Loops.{stmts_more, stmts_last}
-use Rattle.txn_parse.proofs.Deriving.{next_level, reads_outermost}
+use Rattle.txn_parse.proofs.ReadingLemmas.{stmts_more, stmts_last}
+use Rattle.txn_parse.proofs.CompleteExpr.{next_level, reads_outermost}
 
 -- what may follow a statement
 abbrev pub Separates : Symbol → Type 0

@@ -4,14 +4,15 @@ use Rattle.std.proofs.lemmas.List.{append_assoc, append-nil}
 use Rattle.std.proofs.lemmas.Bool.{cond_both, leb-true, leb-false, eqb-true, eqb-false, false≢true, cases_Bool, cases_lt, not-true, and_left, eq-eqb, ne_eqb, lt-ltb}
 use Rattle.txn_lang.specs.declared.tree.BinOp.{BinOp}
 use Rattle.txn_lang.specs.declared.tree.BinOp.TheVariants as op
+use Rattle.txn_lang.specs.Limits.{operator_level, left_level}
 use Rattle.txn_text.specs.declared.kinds.Token.{Token}
 use Rattle.txn_text.specs.declared.kinds.TokenKind.TheVariants as kind
 use Rattle.txn_parse.specs.declared.symbols.Symbol.{Symbol}
 use Rattle.txn_parse.specs.declared.symbols.Symbol.TheVariants as symbol
 use Rattle.txn_parse.specs.Symbols.{Lexeme, lexeme}
 use Rattle.txn_parse.specs.Tree.{Term, Num, Local, Neg, Not, Bin}
-use Rattle.txn_parse.specs.Pending.{level_of, Opened, Nothing, Minus, Deny, Paren, Infix, State, Awaits, Has, give, joined, closed, whole, has_paren, compares, starts_operand, goes_on_behind, goes_on, operand_step, operator_step, step, ended}
-use Rattle.txn_parse.specs.Grammar.{left_level, IsExpr, number, local, negative, denied, grouped, joined as between, tighter}
+use Rattle.txn_parse.specs.Pending.{Opened, Nothing, Minus, Deny, Paren, Infix, State, Awaits, Has, give, joined, closed, whole, has_paren, compares, starts_operand, goes_on_behind, goes_on, operand_step, operator_step, step, ended}
+use Rattle.txn_parse.specs.Grammar.{IsExpr, number, local, negative, denied, grouped, joined as between, tighter}
 
 -- the level of the innermost thing that is open
 abbrev pub top : Opened → ℕ
@@ -19,7 +20,7 @@ top Nothing = 0
 top (Minus up) = 5
 top (Deny up) = 5
 top (Paren up) = 0
-top (Infix a o up) = level_of o
+top (Infix a o up) = operator_level o
 
 -- no sign and no `not` awaits its operand
 abbrev pub Unsigned : Opened → Type 0
@@ -37,7 +38,7 @@ Stands (Minus up) pre = Behind pre (symbol.Op op.Sub) (Stands up)
 Stands (Deny up) pre = Behind pre symbol.Not (Stands up)
 Stands (Paren up) pre = Behind pre symbol.OpenParen (Stands up)
 Stands (Infix a o up) pre =
-    Behind pre (symbol.Op o) (λ r. (q : List Lexeme) × (ls : List Lexeme) × (r ≡ q ++ ls) × Stands up q × IsExpr (left_level (level_of o)) ls a × (top up < level_of o))
+    Behind pre (symbol.Op o) (λ r. (q : List Lexeme) × (ls : List Lexeme) × (r ≡ q ++ ls) × Stands up q × IsExpr (left_level o) ls a × (top up < operator_level o))
 
 pub record Holds (e : Term) (o : Opened) (pre : List Lexeme) : Type 0 where
   pub front : List Lexeme
@@ -59,7 +60,7 @@ looser (suc k) n ls e d = tighter n ls e (looser k (suc n) ls e (subst (λ m. Is
 pub loosened : (m n : ℕ) (ls : List Lexeme) (e : Term) → n ≤ m → IsExpr m ls e → IsExpr n ls e
 loosened m n ls e below d = looser (m - n) n ls e (subst (λ k. IsExpr k ls e) (let z : m ≡ m - n + n = omega arith in z) d)
 
-pub level_some : (o : BinOp) → 0 < level_of o
+pub level_some : (o : BinOp) → 0 < operator_level o
 level_some op.Or = omega arith
 level_some op.And = omega arith
 level_some op.Eq = omega arith
@@ -74,7 +75,7 @@ level_some op.Mul = omega arith
 level_some op.Div = omega arith
 level_some op.Rem = omega arith
 
-pub level_most : (o : BinOp) → level_of o ≤ 5
+pub level_most : (o : BinOp) → operator_level o ≤ 5
 level_most op.Or = omega arith
 level_most op.And = omega arith
 level_most op.Eq = omega arith
@@ -90,11 +91,13 @@ level_most op.Div = omega arith
 level_most op.Rem = omega arith
 
 -- what an operator's left operand asks for
-pub left_level_most : (n m : ℕ) → n ≤ m → ((n ≡ 3) → 4 ≤ m) → left_level n ≤ m
-left_level_most n m below chained = cond_both (n == 3) 4 n (λ k. k ≤ m) (λ is. chained (eqb-true n 3 is)) (λ _. below)
+pub left_level_most : (o : BinOp) (m : ℕ) → operator_level o ≤ m → ((operator_level o ≡ 3) → 4 ≤ m) → left_level o ≤ m
+left_level_most o m below chained = cond_both (operator_level o == 3) 4 (operator_level o) (λ k. k ≤ m) (λ is. chained (eqb-true (operator_level o) 3 is)) (λ _. below)
 
-pub left_level_least : (n : ℕ) → n ≤ left_level n
-left_level_least n = cond_both (n == 3) 4 n (λ k. n ≤ k) (λ is. let e = eqb-true n 3 is in omega (arith, e)) (λ _. omega arith)
+pub left_level_least : (o : BinOp) → operator_level o ≤ left_level o
+left_level_least o =
+    let n = operator_level o in
+    cond_both (n == 3) 4 n (λ k. n ≤ k) (λ is. let e = eqb-true n 3 is in omega (arith, e)) (λ _. omega arith)
 
 pub top_below : (o : Opened) → top o < 6
 top_below Nothing = omega arith
@@ -149,7 +152,7 @@ rest_chains_not n m c below free =
     (λ no. and_left (n == 3) c no)
     (cases_Bool (n == 3))
 
-pub joined_stands : (o : Opened) (q es : List Lexeme) (e : Term) (k : ℕ) (o' : BinOp) (t : Token) → Stands o q → Unsigned o → IsExpr k es e → top o < k → left_level (level_of o') ≤ k → (level_of o' == 3 && compares o) ≡ false →
+pub joined_stands : (o : Opened) (q es : List Lexeme) (e : Term) (k : ℕ) (o' : BinOp) (t : Token) → Stands o q → Unsigned o → IsExpr k es e → top o < k → left_level o' ≤ k → (operator_level o' == 3 && compares o) ≡ false →
     Stands (joined o e o') ((q ++ es) ++ lexeme (symbol.Op o') t ∷ [])
 joined_stands Nothing q es e k o' t s u d above left chained =
     (q ++ es, t, refl, (q, es, refl, s, loosened k _ es e left d, level_some o'))
@@ -158,15 +161,15 @@ joined_stands (Deny up) q es e k o' t s u d above left chained = absurd u
 joined_stands (Paren up) q es e k o' t s u d above left chained =
     (q ++ es, t, refl, (q, es, refl, s, loosened k _ es e left d, level_some o'))
 joined_stands (Infix a earlier up) q es e k o' t s u d above left chained =
-    cond_both (leb (level_of o') (level_of earlier)) (joined up (Bin earlier a e) o') (Infix e o' (Infix a earlier up)) (λ x. Stands x ((q ++ es) ++ lexeme (symbol.Op o') t ∷ []))
+    cond_both (leb (operator_level o') (operator_level earlier)) (joined up (Bin earlier a e) o') (Infix e o' (Infix a earlier up)) (λ x. Stands x ((q ++ es) ++ lexeme (symbol.Op o') t ∷ []))
     (λ tight.
     let below = leb-true _ _ tight in
-    let whole_d = between earlier s.1 s.3.1 es a e s.3.4 (loosened k (suc (level_of earlier)) es e above d) in
+    let whole_d = between earlier s.1 s.3.1 es a e s.3.4 (loosened k (suc (operator_level earlier)) es e above d) in
     let tokens = infix_tokens q (s.0) (s.3.0) (s.3.1) es (lexeme (symbol.Op earlier) s.1) s.2 s.3.2 in
-    let apart : (level_of o' ≡ 3) → 4 ≤ level_of earlier = chains_not (level_of o') (level_of earlier) (compares up) below chained in
-    let rest_chained : (level_of o' == 3 && compares up) ≡ false = rest_chains_not (level_of o') (level_of earlier) (compares up) below chained in
+    let apart : (operator_level o' ≡ 3) → 4 ≤ operator_level earlier = chains_not (operator_level o') (operator_level earlier) (compares up) below chained in
+    let rest_chained : (operator_level o' == 3 && compares up) ≡ false = rest_chains_not (operator_level o') (operator_level earlier) (compares up) below chained in
     subst (λ x. Stands (joined up (Bin earlier a e) o') (x ++ lexeme (symbol.Op o') t ∷ [])) (sym tokens)
-    (joined_stands up s.3.0 (s.3.1 ++ lexeme (symbol.Op earlier) s.1 ∷ es) (Bin earlier a e) (level_of earlier) o' t s.3.3 (unsigned_below up (level_of earlier) s.3.5 (level_most earlier)) whole_d s.3.5 (left_level_most (level_of o') (level_of earlier) below apart) rest_chained))
+    (joined_stands up s.3.0 (s.3.1 ++ lexeme (symbol.Op earlier) s.1 ∷ es) (Bin earlier a e) (operator_level earlier) o' t s.3.3 (unsigned_below up (operator_level earlier) s.3.5 (level_most earlier)) whole_d s.3.5 (left_level_most o' (operator_level earlier) below apart) rest_chained))
     (λ loose. (q ++ es, t, refl, (q, es, refl, s, loosened k _ es e left d, leb-false _ _ loose)))
 
 closed_stands : (o : Opened) (q es : List Lexeme) (e : Term) (k : ℕ) (u : Token) → Stands o q → IsExpr k es e → top o < k → has_paren o ≡ true → StandsState (closed o e) (q ++ (es ++ lexeme symbol.CloseParen u ∷ []))
@@ -177,11 +180,11 @@ closed_stands (Paren up) q es e k u s d above paren =
     subst (StandsState (give up e)) (sym (ap (λ x. x ++ (es ++ lexeme symbol.CloseParen u ∷ [])) s.2 ∙ append_assoc s.0 (lexeme symbol.OpenParen s.1 ∷ []) (es ++ lexeme symbol.CloseParen u ∷ [])))
     (give_stands up s.0 (lexeme symbol.OpenParen s.1 ∷ (es ++ lexeme symbol.CloseParen u ∷ [])) e s.3 (grouped s.1 u es e (loosened k 1 es e above d)))
 closed_stands (Infix a o up) q es e k u s d above paren =
-    let whole_d = between o s.1 s.3.1 es a e s.3.4 (loosened k (suc (level_of o)) es e above d) in
+    let whole_d = between o s.1 s.3.1 es a e s.3.4 (loosened k (suc (operator_level o)) es e above d) in
     let tokens = infix_tokens q s.0 s.3.0 s.3.1 es (lexeme (symbol.Op o) s.1) s.2 s.3.2 in
     let close = lexeme symbol.CloseParen u ∷ [] in
     subst (StandsState (closed up (Bin o a e))) (sym (append_assoc s.3.0 (s.3.1 ++ lexeme (symbol.Op o) s.1 ∷ es) close) ∙ ap (λ x. x ++ close) (sym tokens) ∙ append_assoc q es close)
-    (closed_stands up s.3.0 (s.3.1 ++ lexeme (symbol.Op o) s.1 ∷ es) (Bin o a e) (level_of o) u s.3.3 whole_d s.3.5 paren)
+    (closed_stands up s.3.0 (s.3.1 ++ lexeme (symbol.Op o) s.1 ∷ es) (Bin o a e) (operator_level o) u s.3.3 whole_d s.3.5 paren)
 
 -- the whole expression is in the grammar
 pub whole_stands : (o : Opened) (q es : List Lexeme) (e : Term) (k : ℕ) (w : Term) → Stands o q → IsExpr k es e → top o < k → whole o e ≡ Some w → IsExpr 1 (q ++ es) w
@@ -192,10 +195,10 @@ whole_stands (Minus up) q es e k w s d above is = cc
 whole_stands (Deny up) q es e k w s d above is = cc
 whole_stands (Paren up) q es e k w s d above is = cc
 whole_stands (Infix a o up) q es e k w s d above is =
-    let whole_d = between o s.1 s.3.1 es a e s.3.4 (loosened k (suc (level_of o)) es e above d) in
+    let whole_d = between o s.1 s.3.1 es a e s.3.4 (loosened k (suc (operator_level o)) es e above d) in
     let tokens = infix_tokens q s.0 s.3.0 s.3.1 es (lexeme (symbol.Op o) s.1) s.2 s.3.2 in
     subst (λ x. IsExpr 1 x w) (sym tokens)
-    (whole_stands up s.3.0 (s.3.1 ++ lexeme (symbol.Op o) s.1 ∷ es) (Bin o a e) (level_of o) w s.3.3 whole_d s.3.5 is)
+    (whole_stands up s.3.0 (s.3.1 ++ lexeme (symbol.Op o) s.1 ∷ es) (Bin o a e) (operator_level o) w s.3.3 whole_d s.3.5 is)
 
 -- some tokens complete an expression
 abbrev pub Completes : List Lexeme → Type 0
@@ -222,10 +225,10 @@ completes (Paren up) q es e k s d above =
     let tokens : s.0 ++ (lexeme symbol.OpenParen s.1 ∷ (es ++ close)) ≡ (q ++ es) ++ close = sym (append_assoc q es close ∙ ap (λ x. x ++ (es ++ close)) s.2 ∙ append_assoc s.0 (lexeme symbol.OpenParen s.1 ∷ []) (es ++ close)) in
     (close ++ rest.0, rest.1, subst (λ x. IsExpr 1 x rest.1) (ap (λ x. x ++ rest.0) tokens ∙ append_assoc (q ++ es) close rest.0) rest.2)
 completes (Infix a o up) q es e k s d above =
-    let whole_d = between o s.1 s.3.1 es a e s.3.4 (loosened k (suc (level_of o)) es e above d) in
+    let whole_d = between o s.1 s.3.1 es a e s.3.4 (loosened k (suc (operator_level o)) es e above d) in
     let tokens = infix_tokens q s.0 s.3.0 s.3.1 es (lexeme (symbol.Op o) s.1) s.2 s.3.2 in
     subst Completes (sym tokens)
-    (completes up s.3.0 (s.3.1 ++ lexeme (symbol.Op o) s.1 ∷ es) (Bin o a e) (level_of o) s.3.3 whole_d s.3.5)
+    (completes up s.3.0 (s.3.1 ++ lexeme (symbol.Op o) s.1 ∷ es) (Bin o a e) (operator_level o) s.3.3 whole_d s.3.5)
 
 -- some expression begins with what was read
 pub state_completes : (s : State) (pre : List Lexeme) → StandsState s pre → Completes pre
@@ -248,7 +251,7 @@ operand_stands o x t pre s goes = absurd (false≢true goes)
 operator_stands : (o : Opened) (e : Term) (x : Symbol) (t : Token) (pre : List Lexeme) → Holds e o pre → goes_on_behind o x ≡ true → StandsState (operator_step o e x) (pre ++ lexeme x t ∷ [])
 operator_stands o e (symbol.Op o') t pre s goes =
     subst (λ x. Stands (joined o e o') (x ++ lexeme (symbol.Op o') t ∷ [])) (sym s.split)
-    (joined_stands o s.front s.operand e 6 o' t s.stands s.unsigned s.derived (top_below o) (left_level_most (level_of o') 6 (let most = level_most o' in omega (arith, most)) (λ _. omega arith)) (not-true _ goes))
+    (joined_stands o s.front s.operand e 6 o' t s.stands s.unsigned s.derived (top_below o) (left_level_most o' 6 (let most = level_most o' in omega (arith, most)) (λ _. omega arith)) (not-true _ goes))
 operator_stands o e symbol.CloseParen t pre s goes =
     subst (StandsState (closed o e)) (sym (append_assoc s.front s.operand (lexeme symbol.CloseParen t ∷ [])) ∙ ap (λ x. x ++ lexeme symbol.CloseParen t ∷ []) (sym s.split))
     (closed_stands o s.front s.operand e 6 t s.stands s.derived (top_below o) goes)

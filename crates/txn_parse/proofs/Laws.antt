@@ -1,6 +1,7 @@
 -- The laws of whole blocks.
 use Rattle.std.proofs.Common.{◌≡◌, ℕ, ◌+◌, ◌-◌, ◌≤◌, List, [], ◌∷◌, ◌++◌, length, take, drop, Ok, Err, sym, ap, ◌∙◌, subst, arith, inl, inr}
 use Rattle.std.proofs.lemmas.List.{append_assoc, append-nil, length-append, length-map, length-drop, take_at, drop_at, take-map, drop-map, drop-drop}
+use Rattle.txn_lang.specs.declared.limits.TheConstants.{DEEPEST_BLOCK, LONGEST_EXPRESSION}
 use Rattle.txn_text.specs.declared.kinds.Token.{Token}
 use Rattle.txn_text.specs.declared.faults.TextFault.{TextFault}
 use Rattle.txn_parse.specs.Symbols.{Lexeme, lexemes}
@@ -8,36 +9,36 @@ use Rattle.txn_parse.specs.Tree.{Commands, End}
 use Rattle.txn_parse.specs.Grammar.{Free, Within, IsBlock}
 use Rattle.txn_parse.specs.Reading.{Found, syntax_at, block_at}
 use Rattle.txn_parse.specs.Laws.{IsFirstBad, IsOneTooMany, IsFault, FoundIsDerived, DerivedIsFound, HasOneTree, FaultIsFirst}
-use Rattle.txn_parse.proofs.Freeing.{free_block, bound_block}
-use Rattle.txn_parse.proofs.Finding.{IsBad, IsOver, Answers, SameFirst, first_of}
-use Rattle.txn_parse.proofs.FindingBlocks.{block_answers}
-use Rattle.txn_parse.proofs.DerivingBlocks.{reads_block}
+use Rattle.txn_parse.proofs.LimitsLemmas.{free_block, bound_block}
+use Rattle.txn_parse.proofs.Sound.{IsBad, IsOver, Answers, SameFirst, first_of}
+use Rattle.txn_parse.proofs.SoundBlocks.{block_answers}
+use Rattle.txn_parse.proofs.CompleteBlocks.{reads_block}
 
 -- readers within wider limits
 record Wider : Type 0 where
   room : ℕ
   depth : ℕ
-  rooms : 64 ≤ room
-  depths : 32 ≤ depth
+  rooms : LONGEST_EXPRESSION ≤ room
+  depths : DEEPEST_BLOCK ≤ depth
 
-answers : (last : ℕ) (ls : List Lexeme) → Answers last (λ (j : Wider). block_at last j.room j.depth) (IsBlock (Within 64 32)) (IsBlock Free) ls (block_at last 64 32 ls)
-answers last ls = block_answers last 64 (λ (j : Wider). j.room) (λ j. j.rooms) 32 (λ j. j.depth) (λ j. j.depths) ls
+answers : (last : ℕ) (ls : List Lexeme) → Answers last (λ (j : Wider). block_at last j.room j.depth) (IsBlock (Within LONGEST_EXPRESSION DEEPEST_BLOCK)) (IsBlock Free) ls (block_at last LONGEST_EXPRESSION DEEPEST_BLOCK ls)
+answers last ls = block_answers last LONGEST_EXPRESSION (λ (j : Wider). j.room) (λ j. j.rooms) DEEPEST_BLOCK (λ j. j.depth) (λ j. j.depths) ls
 
-found_by : (last : ℕ) (ls : List Lexeme) (b : Commands) (rest : List Lexeme) (r : Found Commands) → r ≡ Ok (b, rest) → Answers last (λ (j : Wider). block_at last j.room j.depth) (IsBlock (Within 64 32)) (IsBlock Free) ls r → (front : List Lexeme) × (ls ≡ front ++ rest) × IsBlock (Within 64 32) front b
+found_by : (last : ℕ) (ls : List Lexeme) (b : Commands) (rest : List Lexeme) (r : Found Commands) → r ≡ Ok (b, rest) → Answers last (λ (j : Wider). block_at last j.room j.depth) (IsBlock (Within LONGEST_EXPRESSION DEEPEST_BLOCK)) (IsBlock Free) ls r → (front : List Lexeme) × (ls ≡ front ++ rest) × IsBlock (Within LONGEST_EXPRESSION DEEPEST_BLOCK) front b
 found_by last ls b rest (Ok q) is one =
     let same : q ≡ (b, rest) = cc in
-    (one.front, one.split ∙ ap (λ (x : Commands × List Lexeme). one.front ++ x.1) same, subst (λ (x : Commands × List Lexeme). IsBlock (Within 64 32) one.front x.0) same one.derived)
+    (one.front, one.split ∙ ap (λ (x : Commands × List Lexeme). one.front ++ x.1) same, subst (λ (x : Commands × List Lexeme). IsBlock (Within LONGEST_EXPRESSION DEEPEST_BLOCK) one.front x.0) same one.derived)
 found_by last ls b rest (Err f) is one = cc
 
 pub found_is_derived : FoundIsDerived
-found_is_derived last ls b rest is = found_by last ls b rest (block_at last 64 32 ls) is (answers last ls)
+found_is_derived last ls b rest is = found_by last ls b rest (block_at last LONGEST_EXPRESSION DEEPEST_BLOCK ls) is (answers last ls)
 
 pub derived_is_found : DerivedIsFound
-derived_is_found last front rest b d = reads_block last 64 32 front b rest d
+derived_is_found last front rest b d = reads_block last LONGEST_EXPRESSION DEEPEST_BLOCK front b rest d
 
 -- limits that a list is within
 wide : (ls : List Lexeme) → Wider
-wide ls = record { room = 64 + length ls; depth = 32 + length ls; rooms = omega arith; depths = omega arith }
+wide ls = record { room = LONGEST_EXPRESSION + length ls; depth = DEEPEST_BLOCK + length ls; rooms = omega arith; depths = omega arith }
 
 read_free : (last : ℕ) (ls rest : List Lexeme) (b : Commands) → IsBlock Free ls b → (n m : ℕ) → length ls ≤ n → length ls ≤ m → block_at last n m (ls ++ rest) ≡ Ok (b, rest)
 read_free last ls rest b d n m room depth = reads_block last n m ls b rest (bound_block d n m room depth)
@@ -71,21 +72,21 @@ first_bad last ls f one = record {
   bad = λ l more is begun.
       let whole = (one.front ++ l ∷ []) ++ begun.0 in
       let tokens : whole ≡ one.front ++ (l ∷ begun.0) = append_assoc one.front (l ∷ []) begun.0 in
-      let read = read_free last whole [] begun.1 begun.2 (64 + length whole) (32 + length whole) (omega arith) (omega arith) in
-      let fails = one.again (record { room = 64 + length whole; depth = 32 + length whole; rooms = omega arith; depths = omega arith }) (l ∷ begun.0) (first_same one.rest l more begun.0 is) in
-      differ last (64 + length whole) (32 + length whole) whole (one.front ++ (l ∷ begun.0)) begun.1 (syntax_at last (l ∷ begun.0)) tokens read fails;
+      let read = read_free last whole [] begun.1 begun.2 (LONGEST_EXPRESSION + length whole) (DEEPEST_BLOCK + length whole) (omega arith) (omega arith) in
+      let fails = one.again (record { room = LONGEST_EXPRESSION + length whole; depth = DEEPEST_BLOCK + length whole; rooms = omega arith; depths = omega arith }) (l ∷ begun.0) (first_same one.rest l more begun.0 is) in
+      differ last (LONGEST_EXPRESSION + length whole) (DEEPEST_BLOCK + length whole) whole (one.front ++ (l ∷ begun.0)) begun.1 (syntax_at last (l ∷ begun.0)) tokens read fails;
 }
 
 over : (ls : List Lexeme) (f : TextFault) → IsOver (IsBlock Free) ls f → IsOneTooMany (IsBlock Free) ls f
 over ls f one = record { front = one.front; token = one.l; rest = one.rest; split = one.split; place = one.place; begun = one.begun }
 
-fault_by : (last : ℕ) (ls : List Lexeme) (f : TextFault) (r : Found Commands) → r ≡ Err f → Answers last (λ (j : Wider). block_at last j.room j.depth) (IsBlock (Within 64 32)) (IsBlock Free) ls r → IsFault (IsBlock Free) last ls f
+fault_by : (last : ℕ) (ls : List Lexeme) (f : TextFault) (r : Found Commands) → r ≡ Err f → Answers last (λ (j : Wider). block_at last j.room j.depth) (IsBlock (Within LONGEST_EXPRESSION DEEPEST_BLOCK)) (IsBlock Free) ls r → IsFault (IsBlock Free) last ls f
 fault_by last ls f (Ok q) is one = cc
 fault_by last ls f (Err g) is (inl one) = let same : g ≡ f = cc in subst (IsFault (IsBlock Free) last ls) same (inl (first_bad last ls g one))
 fault_by last ls f (Err g) is (inr one) = let same : g ≡ f = cc in subst (IsFault (IsBlock Free) last ls) same (inr (over ls g one))
 
 pub fault_is_first : FaultIsFirst
-fault_is_first last ls f is = fault_by last ls f (block_at last 64 32 ls) is (answers last ls)
+fault_is_first last ls f is = fault_by last ls f (block_at last LONGEST_EXPRESSION DEEPEST_BLOCK ls) is (answers last ls)
 
 -- where a block that was read stands among the tokens
 pub place_found : (text : List ℕ) (toks behind : List Token) (from : ℕ) (front : List Lexeme) → from ≤ length toks → lexemes text (drop from toks) ≡ front ++ lexemes text behind →

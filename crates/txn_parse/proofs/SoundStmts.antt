@@ -9,9 +9,9 @@ use Rattle.txn_parse.specs.Symbols.{Lexeme, lexeme, is}
 use Rattle.txn_parse.specs.Tree.{Term, Num, Command, Let as SetTo, Read as ReadOf, Write as WriteOf, Print as PrintOf, If as Choice, Repeat as Loop, Abort as Stop, Commands, End, Then}
 use Rattle.txn_parse.specs.Grammar.{Limits, Free, Within, number, IsOutermost, IsStmt, sets, reads, writes, prints, chooses, chooses_else, repeats, aborts, IsBlock, braced, last as last_one}
 use Rattle.txn_parse.specs.Reading.{Reader, syntax_at, expr_at, let_at, read_at, write_at, print_at, else_at, if_at, repeat_at, stmt_by, stmt_at}
-use Rattle.txn_parse.proofs.Standing.{loosened}
-use Rattle.txn_parse.proofs.Finding.{Answers, found_here, bad_here, Plain, some_token, then_answers, take_then, cons_answers, begins_same, ends_same}
-use Rattle.txn_parse.proofs.FindingExpr.{expr_answers}
+use Rattle.txn_parse.proofs.PendingLemmas.{loosened}
+use Rattle.txn_parse.proofs.Sound.{Answers, found_here, bad_here, Plain, some_token, then_answers, take_then, cons_answers, begins_same, ends_same}
+use Rattle.txn_parse.proofs.SoundExpr.{expr_answers}
 
 pub plain_name : Plain Name
 plain_name Name e = refl

@@ -4,19 +4,20 @@ use Rattle.std.proofs.lemmas.List.{append_assoc, length-append}
 use Rattle.std.proofs.lemmas.Bool.{cond_both, cond-true, cond-false, le-leb, lt-leb, eqb-true, eqb-false, cases_Bool, and_left, ne_eqb, lt-ltb, le-ltb, and_right, false_from_ne_true, not_from_false}
 use Rattle.txn_lang.specs.declared.tree.BinOp.{BinOp}
 use Rattle.txn_lang.specs.declared.tree.BinOp.TheVariants as op
+use Rattle.txn_lang.specs.Limits.{operator_level, left_level}
 use Rattle.txn_text.specs.declared.faults.FaultKind.TheVariants as fault
 use Rattle.txn_text.specs.declared.faults.TextFault.TheVariants.{At}
 use Rattle.txn_parse.specs.declared.symbols.Symbol.{Symbol}
 use Rattle.txn_parse.specs.declared.symbols.Symbol.TheVariants as symbol
 use Rattle.txn_parse.specs.Symbols.{Lexeme, lexeme}
 use Rattle.txn_parse.specs.Tree.{Term, Bin}
-use Rattle.txn_parse.specs.Pending.{level_of, Opened, Nothing, Minus, Deny, Paren, Infix, State, Awaits, Has, give, joined, whole, compares, goes_on_behind, goes_on, operator_step, step}
-use Rattle.txn_parse.specs.Grammar.{left_level, IsExpr, number, local, negative, denied, grouped, joined as between, tighter}
+use Rattle.txn_parse.specs.Pending.{Opened, Nothing, Minus, Deny, Paren, Infix, State, Awaits, Has, give, joined, whole, compares, goes_on_behind, goes_on, operator_step, step}
+use Rattle.txn_parse.specs.Grammar.{IsExpr, number, local, negative, denied, grouped, joined as between, tighter}
 use Rattle.txn_parse.specs.Reading.{ended_at, expr_from, expr_at}
-use Rattle.txn_parse.proofs.Standing.{top, Unsigned, unsigned_below, left_level_least, level_some, level_most}
+use Rattle.txn_parse.proofs.PendingLemmas.{top, Unsigned, unsigned_below, left_level_least, level_some, level_most}
 
 abbrev pub symbol_level : Symbol → ℕ
-symbol_level (symbol.Op o) = level_of o
+symbol_level (symbol.Op o) = operator_level o
 symbol_level s = 0
 
 -- the level of an operator that follows
@@ -37,8 +38,9 @@ bound_more n =
     (λ is. let e = eqb-true (suc n) 3 is in let most = bound_most n in omega (arith, e, most))
     (λ _. let most = bound_most n in omega (arith, most))
 
-bound_left : (n : ℕ) → n ≤ bound (left_level n)
-bound_left n =
+bound_left : (o : BinOp) → operator_level o ≤ bound (left_level o)
+bound_left o =
+    let n = operator_level o in
     cond_both (n == 3) 4 n (λ k. n ≤ bound k)
     (λ is. let e = eqb-true n 3 is in omega (arith, e))
     (λ no. cond_both (n == 3) 2 n (λ k. n ≤ k) (λ is. let e = eqb-true n 3 is in absurd (eqb-false n 3 no e)) (λ _. omega arith))
@@ -57,12 +59,12 @@ give_has (Deny up) e u = absurd u
 give_has (Paren up) e u = refl
 give_has (Infix a o up) e u = refl
 
-joined_low : (o : Opened) (a : Term) (o' : BinOp) → top o < level_of o' → joined o a o' ≡ Infix a o' o
+joined_low : (o : Opened) (a : Term) (o' : BinOp) → top o < operator_level o' → joined o a o' ≡ Infix a o' o
 joined_low Nothing a o' low = refl
 joined_low (Minus up) a o' low = refl
 joined_low (Deny up) a o' low = refl
 joined_low (Paren up) a o' low = refl
-joined_low (Infix x earlier up) a o' low = cond-false (leb (level_of o') (level_of earlier)) _ _ (lt-leb (level_of o') (level_of earlier) low)
+joined_low (Infix x earlier up) a o' low = cond-false (leb (operator_level o') (operator_level earlier)) _ _ (lt-leb (operator_level o') (operator_level earlier) low)
 
 -- no comparison is open where what is open binds looser
 compares_low : (o : Opened) → top o < 3 → compares o ≡ false
@@ -71,9 +73,9 @@ compares_low (Minus up) low = refl
 compares_low (Deny up) low = refl
 compares_low (Paren up) low = refl
 compares_low (Infix x o up) low =
-    let apart : (level_of o == 3) ≡ false = ne_eqb (level_of o) 3 (λ e. omega (arith, low, e)) in
-    let loose : ltb 3 (level_of o) ≡ false = le-ltb 3 (level_of o) (omega (arith, low)) in
-    ap (λ b. b || (ltb 3 (level_of o) && compares up)) apart ∙ ap (λ b. b && compares up) loose
+    let apart : (operator_level o == 3) ≡ false = ne_eqb (operator_level o) 3 (λ e. omega (arith, low, e)) in
+    let loose : ltb 3 (operator_level o) ≡ false = le-ltb 3 (operator_level o) (omega (arith, low)) in
+    ap (λ b. b || (ltb 3 (operator_level o) && compares up)) apart ∙ ap (λ b. b && compares up) loose
 
 goes_low : (o : Opened) (n : ℕ) → top o < n → (n == 3 && compares o) ≡ false
 goes_low o n low =
@@ -92,19 +94,19 @@ chain_same n m c below =
     (λ no. and_left (n == 3) _ no ∙ sym (and_left (n == 3) c no))
     (cases_Bool (n == 3))
 
-same_goes : (a : Term) (o' : BinOp) (o : Opened) (x : Symbol) → symbol_level x ≤ bound (level_of o') → goes_on_behind (Infix a o' o) x ≡ goes_on_behind o x
-same_goes a o' o (symbol.Op o2) below = ap not (chain_same (level_of o2) (level_of o') (compares o) below)
+same_goes : (a : Term) (o' : BinOp) (o : Opened) (x : Symbol) → symbol_level x ≤ bound (operator_level o') → goes_on_behind (Infix a o' o) x ≡ goes_on_behind o x
+same_goes a o' o (symbol.Op o2) below = ap not (chain_same (operator_level o2) (operator_level o') (compares o) below)
 same_goes a o' o symbol.CloseParen below = refl
 same_goes a o' o x below = refl
 
-same_step : (a b : Term) (o' : BinOp) (o : Opened) (x : Symbol) → symbol_level x ≤ bound (level_of o') → operator_step (Infix a o' o) b x ≡ operator_step o (Bin o' a b) x
+same_step : (a b : Term) (o' : BinOp) (o : Opened) (x : Symbol) → symbol_level x ≤ bound (operator_level o') → operator_step (Infix a o' o) b x ≡ operator_step o (Bin o' a b) x
 same_step a b o' o (symbol.Op o2) below =
-    let most = bound_most (level_of o') in
-    ap Awaits (cond-true (leb (level_of o2) (level_of o')) _ _ (le-leb (level_of o2) (level_of o') (omega (arith, below, most))))
+    let most = bound_most (operator_level o') in
+    ap Awaits (cond-true (leb (operator_level o2) (operator_level o')) _ _ (le-leb (operator_level o2) (operator_level o') (omega (arith, below, most))))
 same_step a b o' o x below = refl
 
 -- an operator may take its right operand before a looser one follows
-absorb : (last r : ℕ) (a b : Term) (o' : BinOp) (o : Opened) (rest : List Lexeme) → next_level rest ≤ bound (level_of o') → expr_from last rest r (Has b (Infix a o' o)) ≡ expr_from last rest r (Has (Bin o' a b) o)
+absorb : (last r : ℕ) (a b : Term) (o' : BinOp) (o : Opened) (rest : List Lexeme) → next_level rest ≤ bound (operator_level o') → expr_from last rest r (Has b (Infix a o' o)) ≡ expr_from last rest r (Has (Bin o' a b) o)
 unfolding expr_from
 absorb last r a b o' o [] below = refl
 absorb last zero a b o' o (l ∷ ls) below =
@@ -129,15 +131,15 @@ reads_expr (grouped t u ls e d) last r o rest k room low next =
     ∙ reads_expr d last (suc r) (Paren o) (lexeme symbol.CloseParen u ∷ rest) (length ls + suc r) refl (omega arith) (omega arith)
     ∙ one last r (suc r) (Has e (Paren o)) (lexeme symbol.CloseParen u) rest refl refl
 reads_expr (between o' t ls ms a b d1 d2) last r o rest k room low next =
-    let L = level_of o' in
+    let L = operator_level o' in
     let l = lexeme (symbol.Op o') t in
     let len = length-append ls (l ∷ ms) in
-    let least = left_level_least L in
+    let least = left_level_least o' in
     let most = level_most o' in
     let unsigned = unsigned_below o L low most in
     let more = bound_more L in
     ap (λ x. expr_from last x k (Awaits o)) (append_assoc ls (l ∷ ms) rest)
-    ∙ reads_expr d1 last (suc (length ms + r)) o (l ∷ (ms ++ rest)) k (omega (arith, room, len)) (omega (arith, low, least)) (bound_left L)
+    ∙ reads_expr d1 last (suc (length ms + r)) o (l ∷ (ms ++ rest)) k (omega (arith, room, len)) (omega (arith, low, least)) (bound_left o')
     ∙ ap (expr_from last (l ∷ (ms ++ rest)) (suc (length ms + r))) (give_has o a unsigned)
     ∙ one last (length ms + r) (suc (length ms + r)) (Has a o) l (ms ++ rest) refl (not_from_false _ (goes_low o L low))
     ∙ ap (λ x. expr_from last (ms ++ rest) (length ms + r) (Awaits x)) (joined_low o a o' low)
