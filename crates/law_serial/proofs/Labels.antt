@@ -1,5 +1,5 @@
 use Rattle.std.proofs.Common.{◌≡◌, ℕ, ℤ, ◌+◌, inl, inr, refl, ap, sym, subst, true, false, Bool, cond, List, [], ◌∷◌, ◌++◌, Option, Some, None, append_assoc, get_or, set, take, arith}
-use Rattle.std.specs.Prelude.{zero, suc, map, not, ◌&&◌, ◌||◌, unwrap_or}
+use Rattle.std.specs.Prelude.{zero, suc, map, not, ◌||◌, unwrap_or}
 use Rattle.std.specs.List.{slice_get, list_any}
 use Rattle.std.specs.Ordering.{int_eq}
 use Rattle.std.proofs.lemmas.List.{append-nil}
@@ -9,9 +9,8 @@ use Rattle.protocol.specs.Lists.{IsIn}
 use Rattle.protocol.specs.declared.Held.{Held}
 use Rattle.protocol.specs.Client.State.{Walk, Answer, values, reads_of}
 use Rattle.protocol.specs.Client.Deciding.{moved_on, other_value, cut}
-use Rattle.protocol.specs.Client.Following.{no_answer, effect, place_of}
+use Rattle.protocol.specs.Client.Following.{no_answer, effect, is_named, place_of}
 use Rattle.protocol.specs.Client.Following.Effect.{Nothing, Sure, Follow}
-use Rattle.protocol.proofs.TestLemmas.{and_left, and_right}
 use Rattle.protocol.proofs.NamesLemmas.{key_is, wid_is}
 
 -- each answer fits the key that is asked after the ones before it
@@ -108,9 +107,10 @@ read_at (k ∷ ks) (a ∷ more) r (inr i) = let m = read_at ks more r i in recor
 
 -- a Note that turns a label sure has its write name, and is sure
 pub effect_sure : (old new : Held) (gone : Option Wid) → effect old new gone ≡ Sure → (old.wid ≡ new.wid) × (new.sure ≡ true)
-effect_sure old new gone e = go (wid_before old.wid new.wid || elim gone [ None ↦ false | Some g ↦ same_wid old.wid g ]) (same_wid old.wid new.wid && new.sure) refl e
+effect_sure old new gone e = go (same_wid old.wid new.wid) new.sure (wid_before old.wid new.wid || is_named old gone) refl refl e
   where
-    go : (t u : Bool) → (same_wid old.wid new.wid && new.sure) ≡ u → cond t Follow (cond u Sure Nothing) ≡ Sure → (old.wid ≡ new.wid) × (new.sure ≡ true)
-    go true u q e = cc
-    go false true q e = (wid_is old.wid new.wid (and_left (same_wid old.wid new.wid) _ q), and_right (same_wid old.wid new.wid) _ q)
-    go false false q e = cc
+    go : (t u v : Bool) → same_wid old.wid new.wid ≡ t → new.sure ≡ u → cond t (cond u Sure Nothing) (cond v Follow Nothing) ≡ Sure → (old.wid ≡ new.wid) × (new.sure ≡ true)
+    go true true v q f e = (wid_is old.wid new.wid q, f)
+    go true false v q f e = cc
+    go false u true q f e = cc
+    go false u false q f e = cc

@@ -24,11 +24,12 @@ abbrev pub is_named : Held → Option Wid → Bool
 is_named old None = false
 is_named old (Some lost) = same_wid old.wid lost
 
--- a read follows a later write, or any write once its own is gone; its own write can only turn it sure
+-- its own write can only turn a read sure, whatever is named as gone; it follows a later write, and any other once its
+-- own is gone
 abbrev pub effect : Held → Held → Option Wid → Effect
 effect old new gone =
-    cond (wid_before old.wid new.wid || is_named old gone) Follow
-    (cond (same_wid old.wid new.wid && new.sure) Sure Nothing)
+    cond (same_wid old.wid new.wid) (cond new.sure Sure Nothing)
+    (cond (wid_before old.wid new.wid || is_named old gone) Follow Nothing)
 
 -- the label, sure
 abbrev pub surely : Held → Held
