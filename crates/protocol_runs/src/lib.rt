@@ -3,7 +3,8 @@
 //! Each run is a plan with a list of events, and says the whole mail that they make, envelope by envelope, and what was
 //! decided. Read `specs/Samples` (programs, plans, names), then `Commits`, `ReExecutions`, `Recoveries` and `Truncations`;
 //! `docs/PROTOCOL.md` draws some of them. `SamplePrograms` says that the sample programs are programs of the language,
-//! `JournalRuns` has small runs by the fair rule, and `QuietRun` one that meets the premises of the law on first commits.
+//! `JournalRuns` has small runs by the fair rule, and `QuietRun` a run of a script within its limits that meets the
+//! premises of the law on first commits.
 #![tactic(auto)]
 
 ghost use Rattle.protocol_runs.specs.Commits.{FirstRun, FastPath, HurriedClient, FinalVote};
@@ -84,7 +85,8 @@ pub fn small_runs()
     ensures { SmallRuns }
 {}
 
-/// The premises of the law on first commits can be met: one client and one replica, and nine events.
+/// The premises of the law on first commits are met by a run of a script within its limits: one client and one replica,
+/// and nine events.
 pub fn quiet_run()
     ensures { QuietRun }
 {}
