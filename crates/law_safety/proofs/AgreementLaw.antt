@@ -1,15 +1,14 @@
 -- No two nodes decide an execution differently.
 use Rattle.std.proofs.Common.{◌≡◌, ◌<◌, ◌≢◌, Some}
 use Rattle.protocol.specs.Words.{Exec, NodeId, Abandon, ToCommit}
-use Rattle.protocol.specs.World.State.{Plan, World, first_world}
-use Rattle.protocol.specs.World.Events.{replay_from}
+use Rattle.protocol.specs.World.State.{Plan, World}
 use Rattle.protocol.specs.World.Decided.{decided_by}
-use Rattle.law_safety.specs.Agreement.{Agreement}
-use Rattle.law_steps.proofs.Reach.{Reach, events_reach}
-use Rattle.law_steps.proofs.Reach.From.{Begins}
+use Rattle.law_safety.specs.Agreement.{Agreement, AgreementOf}
+use Rattle.law_steps.proofs.Reach.{Reach}
 use Rattle.law_safety.proofs.LocksLemmas.{locks_clash}
 use Rattle.law_safety.proofs.CommitIsSent.{decided_by_sent}
 use Rattle.law_safety.proofs.InvariantHolds.{safe_reach}
+use Rattle.law_steps.proofs.AlwaysLemmas.{always}
 
 module _ (p : Plan) (pos : 0 < p.replicas) where
   agreed : (w : World) → Reach p w → (x : Exec) (a b : NodeId) → decided_by w a x ≡ Some Abandon → decided_by w b x ≢ Some ToCommit
@@ -17,4 +16,4 @@ module _ (p : Plan) (pos : 0 < p.replicas) where
       locks_clash p w q s.proposals x (s.abandoned x d.0 d.1) (s.committed x c.0 c.1).0
 
 pub agreement : Agreement
-agreement p pos events x a b = agreed p pos (replay_from p first_world events) (events_reach p first_world first_world Begins events) x a b
+agreement = always AgreementOf agreed

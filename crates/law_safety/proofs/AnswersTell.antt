@@ -9,17 +9,17 @@ use Rattle.protocol.specs.Replica.Votes.{Cast, casts, new_cast}
 use Rattle.protocol.specs.declared.First2.{First2}
 use Rattle.protocol.specs.Replica.Says.{answer, refusal, says}
 use Rattle.protocol.specs.Replica.Readers.{due, envelope_from}
-use Rattle.protocol.specs.World.State.{Plan, World, first_world}
+use Rattle.protocol.specs.World.State.{Plan, World}
 use Rattle.protocol.specs.World.Decided.{WasSentBy}
 use Rattle.protocol.proofs.ListsLemmas.{IsIn-left, IsIn-right, IsIn-cases, IsIn-one_when, at_cases, map_in}
 use Rattle.law_steps.proofs.MailLemmas.{mail_grows}
-use Rattle.law_steps.proofs.Reach.{Step, Reach, events_reach}
+use Rattle.law_steps.proofs.Reach.{Step, Reach}
 use Rattle.law_steps.proofs.Reach.Step.{Stands, Client_acts, Replica_acts, Warden_acts}
 use Rattle.law_steps.proofs.Reach.From.{Begins, Next}
 use Rattle.law_steps.proofs.ReplicaFacts.{RFact, facts_reach}
-use Rattle.protocol.specs.World.Events.{replay_from}
-use Rattle.law_safety.specs.Invariants.{AnswersTell}
+use Rattle.law_safety.specs.Invariants.{AnswersTell, AnswersTellOf}
 use Rattle.law_safety.proofs.LocksLemmas.{cast_found}
+use Rattle.law_steps.proofs.AlwaysLemmas.{always_of_any}
 
 cast_answer : (firsts : List First2) (h : Handled) (b : Body) (c : Cast) → IsIn c (new_cast h (casts h) b) → IsIn (Voted c.exec c.vote) (answer firsts h b)
 unfolding answer
@@ -75,10 +75,10 @@ spoke_reach p _ (Next w w' q (Replica_acts s)) r = subst (λ (f : ℕ → Handle
     (spoke_grows p w w' (Replica_acts s) r _ (spoke_reach p w q r)))
 
 pub answers_tell : AnswersTell
-answers_tell p events r = let w = replay_from p first_world events in let q = events_reach p first_world first_world Begins events in record {
-  votes = λ x v e. let c = cast_found x (casts (w.replica r)) v e in let t = (spoke_reach p w q r).votes c.0 c.1 in
+answers_tell = always_of_any AnswersTellOf (λ p w q. record {
+  votes = λ r x v e. let c = cast_found x (casts (w.replica r)) v e in let t = (spoke_reach p w q r).votes c.0 c.1 in
       record { envelope = t.envelope; there = t.there; from = t.from; body = t.body ∙ ap (λ (y : Exec). Voted y c.0.vote) c.2 ∙ ap (λ (u : Vote). Voted x u) c.3 };
-  voted = λ x v t. subst (RFact r (w.replica r)) t.body ((facts_reach p w q).said t.envelope r t.there t.from);
-  accepts = λ a i. (spoke_reach p w q r).accepts a i;
-  accepted = λ x v t. subst (RFact r (w.replica r)) t.body ((facts_reach p w q).said t.envelope r t.there t.from);
-}
+  voted = λ r x v t. subst (RFact r (w.replica r)) t.body ((facts_reach p w q).said t.envelope r t.there t.from);
+  accepts = λ r a i. (spoke_reach p w q r).accepts a i;
+  accepted = λ r x v t. subst (RFact r (w.replica r)) t.body ((facts_reach p w q).said t.envelope r t.there t.from);
+})

@@ -3,16 +3,15 @@ use Rattle.std.specs.Prelude.{suc}
 use Rattle.protocol.specs.Words.{Exec, Version, BaseEntry, Content, Write, Prepare, key_before, wid_before}
 use Rattle.protocol.specs.Lists.{IsIn}
 use Rattle.protocol.specs.Warden.Base.{entries_of}
-use Rattle.protocol.specs.World.State.{Plan, World, first_world}
-use Rattle.protocol.specs.World.Events.{replay_from}
+use Rattle.protocol.specs.World.State.{Plan, World}
 use Rattle.protocol.specs.World.Decided.{WasSent, IsWrite, IsBase}
 use Rattle.law_safety.proofs.OneContent.{same_prepared}
-use Rattle.law_safety.specs.Bases.{BaseIsOne}
+use Rattle.law_safety.specs.Bases.{BaseIsOne, BaseIsOneOf}
 use Rattle.protocol.proofs.NamesLemmas.{key_trans, key_irreflexive, wid_equal, exec_of}
-use Rattle.law_steps.proofs.Reach.{Reach, events_reach}
-use Rattle.law_steps.proofs.Reach.From.{Begins}
+use Rattle.law_steps.proofs.Reach.{Reach}
 use Rattle.law_safety.proofs.RisingLemmas.{IsStrict, same_members}
 use Rattle.law_safety.proofs.BaseEntries.{rising_one, entry_wid}
+use Rattle.law_steps.proofs.AlwaysLemmas.{always}
 
 -- no key is before itself, nor two before each other
 keys_strict : IsStrict (λ (d e : BaseEntry). key_before d.key e.key)
@@ -48,4 +47,4 @@ module _ (p : Plan) (pos : 0 < p.replicas) (w : World) (q : Reach p w) where
   base_one v bs cs b c = same_members (λ (d e : BaseEntry). key_before d.key e.key) keys_strict bs cs b.rising c.rising (into v bs cs b c) (into v cs bs c b)
 
 pub base_is_one : BaseIsOne
-base_is_one p pos events v bs cs b c = base_one p pos (replay_from p first_world events) (events_reach p first_world first_world Begins events) v bs cs b c
+base_is_one = always BaseIsOneOf base_one

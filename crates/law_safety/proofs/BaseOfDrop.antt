@@ -8,7 +8,7 @@ use Rattle.protocol.specs.World.State.{Plan, World, first_world, rules, warden_r
 use Rattle.protocol.specs.World.Events.{replay_from}
 use Rattle.protocol.specs.World.Decided.{UpTo, WasSent, Committed, IsRising, IsBase}
 use Rattle.law_safety.specs.Locks.{AbandonLock}
-use Rattle.law_safety.specs.Bases.{BaseOfDrop}
+use Rattle.law_safety.specs.Bases.{BaseOfDrop, BaseOfDropOf}
 use Rattle.law_steps.proofs.Reach.{Reach, From, from_trans, events_reach, GotAt, HeardAt}
 use Rattle.law_steps.proofs.Reach.From.{Begins, Next}
 use Rattle.law_steps.proofs.Origin.{Origin, origin}
@@ -24,6 +24,7 @@ use Rattle.protocol.specs.World.Committed.{base_at}
 use Rattle.law_safety.proofs.BaseIsOne.{base_one}
 use Rattle.law_safety.proofs.DropSettles.{drop_settles_now}
 use Rattle.law_safety.proofs.BaseOfWorld.{base_is}
+use Rattle.law_steps.proofs.AlwaysLemmas.{always}
 
 base_rising : (w : World) (v : Version) (t : Truncation) (k : ℕ) → IsRising (base_of v (w.warden k) t.answers)
 unfolding base_of
@@ -73,10 +74,12 @@ drop_kept p pos w w' q f q' v bs t = (
 )
 
 pub base_of_drop : BaseOfDrop
-base_of_drop p pos events more v bs t =
-    let w = replay_from p first_world events in
+base_of_drop = always BaseOfDropOf (λ p some w q more v bs t.
     let w' = replay_from p w more in
-    let q = events_reach p first_world first_world Begins events in
     let q' = events_reach p first_world w q more in
-    let h = drop_kept p pos w w' q (events_reach p w w Begins more) q' v bs t in
-    (base_one p pos w q v bs (base_at p w v) h.0 (base_is p pos w q v), base_one p pos w' q' v bs (base_at p w' v) h.1 (base_is p pos w' q' v), h.2)
+    let h = drop_kept p some w w' q (events_reach p w w Begins more) q' v bs t in
+    record {
+      now = base_one p some w q v bs (base_at p w v) h.0 (base_is p some w q v);
+      later = base_one p some w' q' v bs (base_at p w' v) h.1 (base_is p some w' q' v);
+      settled = h.2;
+    })

@@ -4,18 +4,18 @@ use Rattle.std.specs.Prelude.{map}
 use Rattle.protocol.specs.Words.{Exec, Version, BaseEntry, Content, Kept, Prepare, before}
 use Rattle.protocol.specs.Lists.{IsIn}
 use Rattle.protocol.specs.Warden.Base.{entries_of, kept_entries}
-use Rattle.protocol.specs.World.State.{Plan, World, first_world}
-use Rattle.protocol.specs.World.Events.{replay_from}
+use Rattle.protocol.specs.World.State.{Plan, World}
 use Rattle.protocol.specs.World.Decided.{WasSent, IsWrite, IsBase}
 use Rattle.protocol.specs.World.Committed.{CommittedExec, committed_executions, kept_of, base_at}
 use Rattle.law_safety.proofs.OneContent.{same_prepared}
-use Rattle.law_safety.specs.Outcome.{IsCommittedAs, BaseAt}
+use Rattle.law_safety.specs.CommittedList.{IsCommittedAs}
 use Rattle.protocol.proofs.ListsLemmas.{map_in, flat_map_in, IsIn-map, IsIn-flat_map}
-use Rattle.law_steps.proofs.Reach.{Reach, events_reach}
-use Rattle.law_steps.proofs.Reach.From.{Begins}
+use Rattle.law_steps.proofs.Reach.{Reach}
 use Rattle.law_safety.proofs.BaseLemmas.{puts_hold, puts_of, puts_rising}
 use Rattle.law_safety.proofs.BaseIsOne.{base_one}
 use Rattle.law_safety.proofs.CommittedList.{listed_only, listed_all}
+use Rattle.law_steps.proofs.AlwaysLemmas.{always}
+use Rattle.law_safety.specs.Bases.{BaseOfWorld, BaseOfWorldOf}
 
 module _ (p : Plan) (pos : 0 < p.replicas) (w : World) (q : Reach p w) where
   -- the entries of the committed contents at or below a version
@@ -50,6 +50,5 @@ module _ (p : Plan) (pos : 0 < p.replicas) (w : World) (q : Reach p w) where
     greatest = λ d y. puts_hold [] (Entries v) d (written_entry v d y);
   }
 
-pub base_of_world : BaseAt
-base_of_world p pos events v = let w = replay_from p first_world events in let q = events_reach p first_world first_world Begins events in
-    record { holds = base_is p pos w q v; one = λ bs b. base_one p pos w q v bs (base_at p w v) b (base_is p pos w q v) }
+pub base_of_world : BaseOfWorld
+base_of_world = always BaseOfWorldOf (λ p some w q. record { holds = base_is p some w q; one = λ v bs b. base_one p some w q v bs (base_at p w v) b (base_is p some w q v) })

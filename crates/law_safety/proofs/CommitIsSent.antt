@@ -5,12 +5,10 @@ use Rattle.protocol.specs.Words.{Exec, NodeId, Client, Replica, Warden, Content,
 use Rattle.protocol.specs.Lists.{IsIn}
 use Rattle.protocol.specs.Client.State.{Decision}
 use Rattle.protocol.specs.Warden.State.{DecidedProposal, decision_on}
-use Rattle.protocol.specs.World.State.{Plan, World, first_world}
-use Rattle.protocol.specs.World.Events.{replay_from}
+use Rattle.protocol.specs.World.State.{Plan, World}
 use Rattle.protocol.specs.World.Decided.{decided_by, WasSent, Committed}
 use Rattle.law_steps.proofs.KnownLemmas.{mapped_some, found, Finds, finds_cons, some_from}
-use Rattle.law_steps.proofs.Reach.{Reach, events_reach}
-use Rattle.law_steps.proofs.Reach.From.{Begins}
+use Rattle.law_steps.proofs.Reach.{Reach}
 use Rattle.law_steps.proofs.ReplicaFacts.{RFact, facts_reach}
 use Rattle.law_safety.proofs.ClientEvidence.{decisions_reach}
 use Rattle.law_safety.proofs.WardenEvidence.{ward_reach, decided_sent}
@@ -20,7 +18,8 @@ use Rattle.protocol.proofs.NamesLemmas.{same_exec_refl}
 use Rattle.law_steps.proofs.ClientFacts.{CFact, client_facts_reach}
 use Rattle.law_steps.proofs.WardenFacts.{WFact, ward_facts_reach}
 use Rattle.law_safety.proofs.InvariantHolds.{safe_reach}
-use Rattle.law_safety.specs.Invariants.{CommitIsSent}
+use Rattle.law_safety.specs.Invariants.{CommitIsSent, CommitIsSentOf}
+use Rattle.law_steps.proofs.AlwaysLemmas.{always}
 
 pub find_in : {A : Type 0} (name : A → Exec) (x : Exec) (xs : List A) (a : A) → IsIn a xs → name a ≡ x → Finds (find (λ y. same_exec x (name y)) xs)
 find_in name x [] a i e = absurd i
@@ -68,5 +67,4 @@ module _ (p : Plan) (pos : 0 < p.replicas) (w : World) (q : Reach p w) where
           decides_it (Warden k) x c d.0.proposal.choice (ap (λ (o : Option DecidedProposal). option_map (λ (y : DecidedProposal). y.proposal.choice) o) d.1)
 
 pub commit_is_sent : CommitIsSent
-commit_is_sent p pos events x = let w = replay_from p first_world events in let q = events_reach p first_world first_world Begins events in
-    (committed_sent p pos w q x, λ o t. sent_committed p pos w q x (o, t))
+commit_is_sent = always CommitIsSentOf (λ p some w q. record { sent = committed_sent p some w q; committed = λ x o t. sent_committed p some w q x (o, t) })

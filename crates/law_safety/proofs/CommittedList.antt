@@ -6,23 +6,22 @@ use Rattle.protocol.specs.Words.{Exec, Version, Body, Envelope, Choice, Abandon,
 use Rattle.morty_base.proofs.Orders.{exec_before_total}
 use Rattle.protocol.specs.Lists.{IsIn}
 use Rattle.protocol.specs.Client.State.{Attempt}
-use Rattle.protocol.specs.World.State.{Plan, World, first_world}
-use Rattle.protocol.specs.World.Events.{replay_from}
+use Rattle.protocol.specs.World.State.{Plan, World}
 use Rattle.protocol.specs.World.Decided.{decided_by, WasSent, Committed, IsOf}
 use Rattle.protocol.specs.World.Committed.{nodes, is_commit_choice, is_committed, CommittedExec, put_committed, sorted_committed, attempt_at, of_attempt, committed_in, committed_executions}
 use Rattle.law_safety.proofs.OneContent.{same_prepared}
-use Rattle.law_safety.specs.Outcome.{IsRisingByExec, IsCommittedAs, IsCommittedList, CommittedList}
+use Rattle.law_safety.specs.CommittedList.{IsRisingByExec, IsCommittedAs, IsCommittedList, CommittedList, CommittedListOf}
 use Rattle.protocol.proofs.NamesLemmas.{exec_is, same_version_tells}
 use Rattle.protocol.proofs.ListsLemmas.{flat_map_in, IsIn-flat_map}
 use Rattle.law_steps.proofs.TakenLemmas.{true_false}
 use Rattle.law_steps.proofs.VotesLemmas.{any_true, any_in}
-use Rattle.law_steps.proofs.Reach.{Reach, events_reach}
-use Rattle.law_steps.proofs.Reach.From.{Begins}
+use Rattle.law_steps.proofs.Reach.{Reach}
 use Rattle.law_safety.proofs.CommitIsSent.{committed_sent}
 use Rattle.law_safety.proofs.OneExecution.{committed_prepared}
 use Rattle.law_safety.proofs.OneTry.{tried, one_attempt}
 use Rattle.law_safety.proofs.RisingLemmas.{IsStrict, same_members}
 use Rattle.law_safety.proofs.Absent.{decider}
+use Rattle.law_steps.proofs.AlwaysLemmas.{always}
 
 -- the order of executions
 exec_chain : (x y z : Exec) → exec_before x y ≡ true → exec_before y z ≡ true → exec_before x z ≡ true
@@ -186,5 +185,4 @@ module _ (p : Plan) (pos : 0 < p.replicas) (w : World) (q : Reach p w) where
   listed_one cs a = same_members (λ (c d : CommittedExec). exec_before c.exec d.exec) execs_strict cs (committed_executions p w) a.rising listed_rising (listed_in cs (committed_executions p w) a listed) (listed_in (committed_executions p w) cs listed a)
 
 pub committed_list : CommittedList
-committed_list p pos events = let w = replay_from p first_world events in let q = events_reach p first_world first_world Begins events in
-    record { holds = listed p pos w q; one = listed_one p pos w q }
+committed_list = always CommittedListOf (λ p some w q. record { holds = listed p some w q; one = listed_one p some w q })

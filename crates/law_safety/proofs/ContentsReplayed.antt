@@ -3,18 +3,18 @@ use Rattle.std.proofs.Common.{◌≡◌, ℕ, inl, ap, sym, ◌∙◌, subst, So
 use Rattle.protocol.specs.Words.{Exec, Ending, Content, Prepare}
 use Rattle.protocol.specs.Lists.{IsIn}
 use Rattle.protocol.specs.Client.State.{Attempt, ClientState, content, walk}
-use Rattle.protocol.specs.World.State.{Plan, World, rules, first_world}
-use Rattle.protocol.specs.World.Events.{replay_from}
-use Rattle.law_safety.specs.Replays.{IsReplay, HasReplay, ContentsReplayed}
+use Rattle.protocol.specs.World.State.{Plan, World, rules}
+use Rattle.law_safety.specs.Replays.{IsReplay, HasReplay, ContentsReplayed, ContentsReplayedOf}
 use Rattle.protocol.specs.World.Decided.{WasSent}
 use Rattle.law_steps.proofs.PhaseLemmas.{running_under_way}
-use Rattle.law_steps.proofs.Reach.{Reach, events_reach}
+use Rattle.law_steps.proofs.Reach.{Reach}
 use Rattle.law_steps.proofs.Reach.From.{Begins, Next}
 use Rattle.law_steps.proofs.ClientFacts.{rec_reach}
 use Rattle.law_steps.proofs.Origin.{Origin, origin}
 use Rattle.law_steps.proofs.Origin.Origin.{Old, Of_replica, Of_client, Of_warden}
 use Rattle.law_steps.proofs.TryRec.{try_rec}
 use Rattle.law_safety.proofs.OneExecution.{kept_attempt}
+use Rattle.law_steps.proofs.AlwaysLemmas.{always_of_any}
 
 -- the content that a client prepares
 content_replay : (p : Plan) (c : ClientState) (x : Exec) (a : Attempt) (e : Ending) (k : Content) → c.begun ≡ a.txn → (walk (rules p x.ver.client) c).ending ≡ Some e → k ≡ content (rules p x.ver.client) c e → IsReplay p x a k
@@ -55,4 +55,4 @@ replayed p _ (Next w w' q st) x k t = go (λ z. replayed p w q x k z) (origin p 
         )
 
 pub contents_replayed : ContentsReplayed
-contents_replayed p events x k t = replayed p (replay_from p first_world events) (events_reach p first_world first_world Begins events) x k t
+contents_replayed = always_of_any ContentsReplayedOf replayed

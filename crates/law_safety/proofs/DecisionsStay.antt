@@ -17,12 +17,13 @@ use Rattle.law_steps.proofs.Reach.{Step, Reach, From, from_trans, events_reach, 
 use Rattle.law_steps.proofs.Reach.Step.{Stands, Client_acts, Replica_acts, Warden_acts}
 use Rattle.law_steps.proofs.Reach.From.{Begins, Next}
 use Rattle.law_steps.proofs.WardenFacts.{ward_stays, wrec_reach, wardens_positive, wardens_range}
-use Rattle.law_safety.specs.Agreement.{DecisionsStay}
+use Rattle.law_safety.specs.Agreement.{DecisionsStay, DecisionsStayOf}
 use Rattle.law_safety.proofs.LocksLemmas.{replica_grows, sent_grows}
 use Rattle.law_safety.proofs.LocksStay.{decision_grows}
 use Rattle.law_safety.proofs.TruncationSettles.{apart_locks}
 use Rattle.law_safety.proofs.InvariantHolds.{safe_reach}
 use Rattle.law_safety.proofs.CommitIsSent.{decided_by_sent, find_in}
+use Rattle.law_steps.proofs.AlwaysLemmas.{always}
 
 -- what a warden decided stays
 ward_decision_grows : (p : Plan) (w w' : World) → Reach p w → Step p w w' → (k : ℕ) (x : Exec) (d : Choice) (o : Option Content) → IsIn (record { exec = x; proposal = record { choice = d; content = o } }) (w.warden k).decisions → IsIn (record { exec = x; proposal = record { choice = d; content = o } }) (w'.warden k).decisions
@@ -76,6 +77,4 @@ module _ (p : Plan) (pos : 0 < p.replicas) where
   decision_later o _ r (Next w w' f s) n x d e = decision_stays w w' (from_trans p first_world o w r f) s n x d (decision_later o w r f n x d e)
 
 pub decisions_stay : DecisionsStay
-decisions_stay p pos events more n x d e =
-    let w = replay_from p first_world events in
-    decision_later p pos w (replay_from p w more) (events_reach p first_world first_world Begins events) (events_reach p w w Begins more) n x d e
+decisions_stay = always DecisionsStayOf (λ p some w q more n x choice e. decision_later p some w (replay_from p w more) q (events_reach p w w Begins more) n x choice e)

@@ -6,14 +6,13 @@ use Rattle.protocol.specs.World.Decided.{WasSent}
 use Rattle.law_steps.proofs.ReplicaFacts.{RFact, facts_reach}
 use Rattle.law_steps.proofs.ClientFacts.{CFact, client_facts_reach}
 use Rattle.law_steps.proofs.WardenFacts.{WFact, ward_facts_reach}
-use Rattle.protocol.specs.World.State.{Plan, World, first_world}
-use Rattle.protocol.specs.World.Events.{replay_from}
-use Rattle.law_safety.specs.Invariants.{LocksHold}
-use Rattle.law_steps.proofs.Reach.{Reach, events_reach}
-use Rattle.law_steps.proofs.Reach.From.{Begins}
+use Rattle.protocol.specs.World.State.{Plan, World}
+use Rattle.law_safety.specs.Invariants.{LocksHold, LocksHoldOf}
+use Rattle.law_steps.proofs.Reach.{Reach}
 use Rattle.law_safety.proofs.LocksLemmas.{locks_clash}
 use Rattle.law_safety.proofs.InvariantHolds.{safe_reach}
 use Rattle.law_safety.proofs.CommitIsSent.{decided_by_sent, committed_sent}
+use Rattle.law_steps.proofs.AlwaysLemmas.{always}
 
 -- a vote in the mail is that of a replica
 voted_by : (p : Plan) (w : World) → Reach p w → (x : Exec) (v : Vote) → WasSent w (Voted x v) → (r : ℕ) × (vote (w.replica r) x ≡ Some v)
@@ -25,9 +24,9 @@ voted_by p w q x v t = go t.envelope.from refl
     go (Warden k) f = absurd (subst (WFact p.wardens k (w.warden k)) t.body ((ward_facts_reach p w q).said t.envelope k t.there f))
 
 pub locks_hold : LocksHold
-locks_hold p pos events = let w = replay_from p first_world events in let q = events_reach p first_world first_world Begins events in let s = safe_reach p pos w q in record {
-  abandoned = λ n x e. let d = decided_by_sent p pos w q n x Abandon e in s.abandoned x d.0 d.1;
+locks_hold = always LocksHoldOf (λ p some w q. let s = safe_reach p some w q in record {
+  abandoned = λ n x e. let d = decided_by_sent p some w q n x Abandon e in s.abandoned x d.0 d.1;
   final = λ x t. let v = voted_by p w q x Final t in s.final x v.0 v.1;
-  committed = λ x c. let d = committed_sent p pos w q x c in (s.committed x d.0 d.1).0;
+  committed = λ x c. let d = committed_sent p some w q x c in (s.committed x d.0 d.1).0;
   never_both = λ x a c. locks_clash p w q s.proposals x a c;
-}
+})

@@ -9,13 +9,13 @@ use Rattle.protocol.specs.Client.Deciding.{content_for}
 use Rattle.protocol.specs.Client.State.Phase.{Prepared}
 use Rattle.protocol.specs.Warden.State.{WardenState, Round, ToldAnswer, Proposal, Parcel}
 use Rattle.protocol.specs.Warden.Recovery.{fixed, with_content, told_content}
-use Rattle.protocol.specs.World.State.{Plan, World, rules, warden_rules, first_world}
+use Rattle.protocol.specs.World.State.{Plan, World, rules, warden_rules}
 use Rattle.law_steps.proofs.ClientActs.{Act, IsQuiet}
 use Rattle.law_steps.proofs.ClientActs.Act.{Quiet, Advances, Prepares, Counts, Proposes, Accepts, Decides, Gives_up, Learns}
 use Rattle.law_safety.proofs.ChoiceOfTolds.{chosen}
 use Rattle.protocol.proofs.ListsLemmas.{at_cases, at_same, IsIn-right}
 use Rattle.law_steps.proofs.Reach.Step.{Stands, Client_acts, Replica_acts, Warden_acts}
-use Rattle.law_steps.proofs.Reach.{Step, Reach, ByClientAct, ByWardenAct, GotAt, HeardAt, events_reach}
+use Rattle.law_steps.proofs.Reach.{Step, Reach, ByClientAct, ByWardenAct, GotAt, HeardAt}
 use Rattle.law_steps.proofs.Reach.From.{Begins, Next}
 use Rattle.protocol.specs.World.Decided.{HasContent, WasSent}
 use Rattle.law_steps.proofs.KnownLemmas.{Took, commit_taken, cast_taken}
@@ -31,9 +31,9 @@ use Rattle.law_safety.proofs.ClientEvidence.{evident_reach}
 use Rattle.law_safety.proofs.WardenEvidence.{ward_reach}
 use Rattle.law_steps.proofs.ClientSent.{quiet_not, in_single, in_none}
 use Rattle.law_safety.proofs.WardenSent.{ward_decided}
-use Rattle.protocol.specs.World.Events.{replay_from}
-use Rattle.law_safety.specs.Invariants.{OneContent}
+use Rattle.law_safety.specs.Invariants.{OneContent, OneContentOf}
 use Rattle.law_safety.proofs.OneProposal.{one_reach}
+use Rattle.law_steps.proofs.AlwaysLemmas.{always}
 
 -- each content in the mail is that of a Prepare
 pub record Prepared_contents (w : World) : Type 0 where
@@ -160,6 +160,4 @@ pub same_prepared : (p : Plan) (w : World) → Reach p w → (x : Exec) (k l : C
 same_prepared p w q x k l a b = (one_reach p w q).prepare a.envelope b.envelope x k l a.there b.there a.body b.body
 
 pub one_content : OneContent
-one_content p pos events x b c k l s t h g =
-    let w = replay_from p first_world events in let q = events_reach p first_world first_world Begins events in
-    same_prepared p w q x k l ((contents_reach p pos w q).from b x k h s) ((contents_reach p pos w q).from c x l g t)
+one_content = always OneContentOf (λ p some w q x b c k l s t h g. same_prepared p w q x k l ((contents_reach p some w q).from b x k h s) ((contents_reach p some w q).from c x l g t))

@@ -4,19 +4,18 @@ use Rattle.protocol.specs.Words.{Exec, Version, Body, NodeId, Content, Commit, A
 use Rattle.protocol.specs.Lists.{IsIn}
 use Rattle.protocol.specs.Client.State.{Rules, ClientState, Decision, Attempt}
 use Rattle.protocol.specs.Client.State.Phase.{Between}
-use Rattle.protocol.specs.World.State.{Plan, World, first_world, rules}
-use Rattle.protocol.specs.World.Events.{replay_from}
+use Rattle.protocol.specs.World.State.{Plan, World, rules}
 use Rattle.protocol.specs.World.Decided.{WasSent, IsOf}
 use Rattle.law_steps.specs.Executions.{IsEarlier}
 use Rattle.law_steps.proofs.ExecutionsLemmas.{exec_order, earlier_itself}
-use Rattle.law_safety.specs.Tries.{OneExecution}
+use Rattle.law_safety.specs.Tries.{OneExecution, OneExecutionOf}
 use Rattle.protocol.proofs.ListsLemmas.{at_same}
 use Rattle.protocol.proofs.QuorumsLemmas.{quorums_meet}
 use Rattle.law_steps.proofs.PhaseLemmas.{running_under_way, running_between}
 use Rattle.law_steps.proofs.ClientActs.{Act, IsRunning, TryStep}
 use Rattle.law_steps.proofs.ClientActs.TryStep.{Keeps, Next_exec, Next_try}
 use Rattle.law_steps.proofs.ClientActs.Act.{Quiet, Advances, Prepares, Counts, Proposes, Accepts, Decides, Gives_up, Learns}
-use Rattle.law_steps.proofs.Reach.{Step, Reach, GotAt, events_reach}
+use Rattle.law_steps.proofs.Reach.{Step, Reach, GotAt}
 use Rattle.law_steps.proofs.Reach.From.{Begins, Next}
 use Rattle.law_steps.proofs.ClientFacts.{At, HasPrepared, rec_reach, not_at, running_prepared}
 use Rattle.law_steps.proofs.Senders.{prepare_from}
@@ -29,6 +28,7 @@ use Rattle.law_safety.proofs.TruncationSettles.{CommitSent, apart_locks}
 use Rattle.law_safety.proofs.InvariantHolds.{safe_reach}
 use Rattle.law_safety.proofs.CommitIsSent.{committed_sent}
 use Rattle.law_steps.proofs.TryRec.{try_rec, client_tries}
+use Rattle.law_steps.proofs.AlwaysLemmas.{always}
 
 -- a Prepare of client c that was sent in a step is of the execution under way
 prepares_act : (r : Rules) (Got : NodeId → Body → Type 0) (s s' : ClientState) (sent : List Body) → Act r Got s s' sent → (x : Exec) (k : Content) → IsIn (Prepare x k) sent → (x ≡ s.exec) × IsRunning s.phase × (s'.exec ≡ s.exec)
@@ -206,6 +206,4 @@ module _ (p : Plan) (pos : 0 < p.replicas) (w : World) (q : Reach p w) where
   ]
 
 pub one_execution : OneExecution
-one_execution p pos events x y a b c d i j e n =
-    let w = replay_from p first_world events in let q = events_reach p first_world first_world Begins events in
-    one_of_all p pos w q x y a b (committed_sent p pos w q x c) (committed_sent p pos w q y d) i j e n
+one_execution = always OneExecutionOf (λ p some w q x y a b c d i j e n. one_of_all p some w q x y a b (committed_sent p some w q x c) (committed_sent p some w q y d) i j e n)

@@ -2,15 +2,14 @@
 use Rattle.std.proofs.Common.{◌≡◌, ◌<◌, refl, ap, sym, ◌∙◌}
 use Rattle.protocol.specs.Words.{Exec, Version}
 use Rattle.protocol.specs.Client.State.{Attempt}
-use Rattle.protocol.specs.World.State.{Plan, World, first_world}
-use Rattle.protocol.specs.World.Events.{replay_from}
+use Rattle.protocol.specs.World.State.{Plan, World}
 use Rattle.protocol.specs.World.Decided.{Committed, IsOf}
-use Rattle.law_safety.specs.Tries.{OneTry}
-use Rattle.law_steps.proofs.Reach.{Reach, events_reach}
-use Rattle.law_steps.proofs.Reach.From.{Begins}
+use Rattle.law_safety.specs.Tries.{OneTry, OneTryOf}
+use Rattle.law_steps.proofs.Reach.{Reach}
 use Rattle.law_safety.proofs.CommitIsSent.{committed_sent}
 use Rattle.law_steps.proofs.TryRec.{try_rec, falling_one}
 use Rattle.law_safety.proofs.OneExecution.{single_reach, committed_prepared}
+use Rattle.law_steps.proofs.AlwaysLemmas.{always}
 
 module _ (p : Plan) (pos : 0 < p.replicas) (w : World) (q : Reach p w) where
   pub tried : (x : Exec) → Committed w x → (a : Attempt) × IsOf w x a
@@ -23,6 +22,4 @@ module _ (p : Plan) (pos : 0 < p.replicas) (w : World) (q : Reach p w) where
   one_attempt x a b i j = falling_one (w.client x.ver.client).attempts (try_rec p w q x.ver.client).falling a b i.begun j.begun (ap (λ (v : Version). v.ts) (i.version ∙ sym j.version))
 
 pub one_try : OneTry
-one_try p pos events x c =
-    let w = replay_from p first_world events in let q = events_reach p first_world first_world Begins events in
-    let h = tried p pos w q x c in (h.0, h.1, λ b o. one_attempt p pos w q x b h.0 o h.1)
+one_try = always OneTryOf (λ p some w q x c. let h = tried p some w q x c in record { attempt = h.0; of_attempt = h.1; one = λ b o. one_attempt p some w q x b h.0 o h.1 })

@@ -2,6 +2,6 @@ pub mod Locks
 pub mod Agreement
 pub mod Tries
 pub mod Bases
-pub mod Outcome
+pub mod CommittedList
 pub mod Invariants
 pub mod Replays

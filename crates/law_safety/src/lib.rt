@@ -8,8 +8,8 @@
 
 ghost use Rattle.law_safety.specs.Agreement.{Agreement, DecisionsStay, NoConflict};
 ghost use Rattle.law_safety.specs.Tries.{OneExecution, OneTry};
-ghost use Rattle.law_safety.specs.Bases.{BaseOfDrop, BaseIsOne, TwoVotes, FenceNames, DropSettles};
-ghost use Rattle.law_safety.specs.Outcome.{CommittedList, BaseAt};
+ghost use Rattle.law_safety.specs.Bases.{BaseOfWorld, BaseOfDrop, BaseIsOne, TwoVotes, FenceNames, DropSettles};
+ghost use Rattle.law_safety.specs.CommittedList.{CommittedList};
 ghost use Rattle.law_safety.specs.Replays.{ContentsReplayed};
 ghost use Rattle.law_safety.specs.Invariants.{OneContent, CommitNeedsVotes, AbandonProposals, Views, LocksHold, AnswersTell, CommitIsSent};
 
@@ -47,7 +47,7 @@ pub fn committed_list()
 /// The base of a world at a version is the one list, rising by key, that has for each key with a committed write at or
 /// below the version the write of the greatest name.
 pub fn base_of_world()
-    ensures { BaseAt }
+    ensures { BaseOfWorld }
 {}
 
 /// A Drop carries the base of the world at its version, and keeps it: nothing at or below it is committed later.

@@ -16,4 +16,4 @@ nothing_between p pos events x z k m r a s i b t f g = go (writes_key r.key m.wr
     go false e = refl
     go true e = absurd (true_false (sym (or_left_in (misses x.ver k z.ver m.writes) _
         (both (before z.ver x.ver) _ g (any_in (λ (y : Read). before y.wid.ver z.ver && writes_key y.key m.writes) k.reads r i (both (before r.wid.ver z.ver) _ f e))))
-        ∙ no_conflict p pos events x z a.node b.node k m s.envelope t.envelope a.decides b.decides s.there s.body t.there t.body))
+        ∙ no_conflict p pos events x z k m a b s t))

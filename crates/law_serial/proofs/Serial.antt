@@ -5,7 +5,7 @@ use Rattle.law_safety.proofs.OneTry.{one_attempt}
 use Rattle.law_safety.proofs.CommitNeedsVotes.{commit_needs_votes}
 use Rattle.law_safety.proofs.LocksLemmas.{cast_found}
 use Rattle.law_safety.proofs.BaseEntries.{entry_wid}
-use Rattle.law_safety.specs.Outcome.{IsRisingByExec, IsCommittedAs, IsCommittedList}
+use Rattle.law_safety.specs.CommittedList.{IsRisingByExec, IsCommittedAs, IsCommittedList}
 use Rattle.law_steps.proofs.ReplicaFacts.{taking_reach}
 use Rattle.law_steps.proofs.TakenLemmas.{cast_above_none, true_false}
 use Rattle.protocol.proofs.TestLemmas.{and_left}
@@ -126,7 +126,7 @@ module _ (s : Scripted) (positive : 0 < s.replicas) (events : List Event) where
   -- a committed version is above that of first values
   above_none : (x : Exec) → Committed TheWorld x → before no_version x.ver ≡ true
   above_none x c =
-      let v = commit_needs_votes (plan_of s) positive events x (inl c) in
+      let v = (commit_needs_votes (plan_of s) positive events).decided x c in
       let m = quorums_meet s.replicas _ _ v v in
       let k = cast_found x (casts (TheWorld.replica m.0)) Commit m.1 in
       subst (λ (y : Exec). before no_version y.ver ≡ true) k.2 (cast_above_none (TheWorld.replica m.0) (taking_reach (plan_of s) TheWorld (events_reach (plan_of s) first_world first_world Begins events) m.0) k.0 k.1)

@@ -21,7 +21,7 @@ use Rattle.law_steps.proofs.TakenLemmas.{true_false, IsIn-filter, IsIn-filtered}
 use Rattle.law_steps.proofs.VotesLemmas.{any_true, any_in}
 use Rattle.law_steps.proofs.Reach.{events_reach}
 use Rattle.law_steps.proofs.Reach.From.{Begins}
-use Rattle.law_safety.specs.Outcome.{IsRisingByExec}
+use Rattle.law_safety.specs.CommittedList.{IsRisingByExec}
 use Rattle.law_safety.proofs.BaseEntries.{entry_wid, entry_write, write_entry, rising_one}
 use Rattle.law_safety.proofs.BaseOfWorld.{base_of_world}
 use Rattle.law_safety.proofs.BaseOfDrop.{base_of_drop}
@@ -81,7 +81,7 @@ module _ (s : Scripted) (positive : 0 < s.replicas) (events : List Event) (v : V
   Executions = committed_executions (plan_of s) (replay_from (plan_of s) first_world events)
 
   base : IsBase (replay_from (plan_of s) first_world events) v (base_at (plan_of s) (replay_from (plan_of s) first_world events) v)
-  base = (base_of_world (plan_of s) positive events v).holds
+  base = (base_of_world (plan_of s) positive events).holds v
 
   front : (later : List CommittedExec) × (committed_executions (plan_of s) (replay_from (plan_of s) first_world events) ≡ upto_version v (committed_executions (plan_of s) (replay_from (plan_of s) first_world events)) ++ later)
   front = upto_front v (committed_executions (plan_of s) (replay_from (plan_of s) first_world events)) (listed s positive events).rising
@@ -186,7 +186,7 @@ serial_base s positive events v = record {
 
 pub drops_are_serial : DropsAreSerial
 drops_are_serial s positive events v bs sent =
-    let same = (base_of_drop (plan_of s) positive events [] v bs sent).0 in
+    let same = (base_of_drop (plan_of s) positive events [] v bs sent).now in
     record {
       base = same;
       serial = subst (λ (l : List BaseEntry). IsSerialBase s (upto_version v (committed_executions (plan_of s) (replay_from (plan_of s) first_world events))) l) (sym same) (serial_base s positive events v);

@@ -21,3 +21,4 @@ pub mod Origin
 pub mod TryRec
 pub mod ClientSent
 pub mod ExecutionsLemmas
+pub mod AlwaysLemmas

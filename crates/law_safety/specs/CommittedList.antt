@@ -1,12 +1,12 @@
--- What the list of the committed executions and the base of a world are.
-use Rattle.std.specs.Prelude.{◌≡◌, ◌<◌, List}
-use Rattle.protocol.specs.Words.{Exec, Version, Prepare, BaseEntry, Event, exec_before}
+-- The list of the committed executions of a world.
+use Rattle.std.specs.Prelude.{◌≡◌, List}
+use Rattle.protocol.specs.Words.{Exec, Prepare, exec_before}
 use Rattle.protocol.specs.Lists.{IsIn, IsRisingBy}
 use Rattle.protocol.specs.Client.State.{Attempt}
-use Rattle.protocol.specs.World.State.{Plan, World, first_world}
-use Rattle.protocol.specs.World.Events.{replay_from}
-use Rattle.protocol.specs.World.Decided.{WasSent, Committed, IsOf, IsBase}
-use Rattle.protocol.specs.World.Committed.{CommittedExec, committed_executions, base_at}
+use Rattle.protocol.specs.World.State.{Plan, World}
+use Rattle.protocol.specs.World.Decided.{WasSent, Committed, IsOf}
+use Rattle.protocol.specs.World.Committed.{CommittedExec, committed_executions}
+use Rattle.protocol.specs.Always.{Always}
 
 -- executions stand in rising order of version and then number
 abbrev pub IsRisingByExec : List CommittedExec → Type 0
@@ -33,12 +33,4 @@ pub record CommittedListOf (p : Plan) (w : World) : Type 0 where
   pub one : (cs : List CommittedExec) → IsCommittedList w cs → cs ≡ committed_executions p w
 
 abbrev pub CommittedList : Type 0
-CommittedList = (p : Plan) → 0 < p.replicas → (events : List Event) → CommittedListOf p (replay_from p first_world events)
-
--- the base of a world is just the one list that has for each key the write of greatest name
-pub record BaseAtOf (p : Plan) (w : World) (v : Version) : Type 0 where
-  pub holds : IsBase w v (base_at p w v)
-  pub one : (bs : List BaseEntry) → IsBase w v bs → bs ≡ base_at p w v
-
-abbrev pub BaseAt : Type 0
-BaseAt = (p : Plan) → 0 < p.replicas → (events : List Event) (v : Version) → BaseAtOf p (replay_from p first_world events) v
+CommittedList = Always CommittedListOf
