@@ -1,0 +1,4 @@
+pub mod Moving
+pub mod Stopping
+pub mod Suffix
+pub mod Resuming

@@ -1,0 +1,4 @@
+pub mod Place
+pub mod Segment
+pub mod Job
+pub mod Underway
