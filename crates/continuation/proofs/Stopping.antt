@@ -5,7 +5,7 @@ use Rattle.morty_base.specs.declared.names.Ending.{Ending}
 use Rattle.txn_lang.specs.Keys.{Entry, found}
 use Rattle.txn_lang.specs.Actions.{Actions}
 use Rattle.txn_lang.specs.Runs.{Run, run, next_answer}
-use Rattle.txn_lang.specs.Laws.{or_else}
+use Rattle.std.specs.Option.{option_or}
 use Rattle.txn_lang.proofs.Entries.{found-append}
 use Rattle.flat_code.specs.declared.code.TheConstants.{MOST_OPERATIONS}
 use Rattle.flat_code.specs.declared.frame.Frame.{Frame}
@@ -148,7 +148,7 @@ begun_most code i f d a known u =
     omega arith
 
 -- what is shown is what the definitions know
-pub shown_now : (wrote seen known : List Entry) (k : Key) (o : Option ℤ) → KnowsAs seen known → o ≡ or_else (found (reverse wrote) k) (found seen k) →
+pub shown_now : (wrote seen known : List Entry) (k : Key) (o : Option ℤ) → KnowsAs seen known → o ≡ option_or (found (reverse wrote) k) (found seen k) →
     found (reverse wrote ++ known) k ≡ o
 shown_now wrote seen known k o knows h =
-    found-append (reverse wrote) known k ∙ ap (or_else (found (reverse wrote) k)) (sym (knows.same k)) ∙ sym h
+    found-append (reverse wrote) known k ∙ ap (option_or (found (reverse wrote) k)) (sym (knows.same k)) ∙ sym h

@@ -1,6 +1,6 @@
 ghost use Rattle.std.specs.Prelude.{◌≡◌, reverse};
+ghost use Rattle.std.specs.Option.{option_or};
 ghost use Rattle.txn_lang.specs.Keys.{found};
-ghost use Rattle.txn_lang.specs.Laws.{or_else};
 
 use crate::segment::Known;
 use flat_code::Write2;
@@ -32,7 +32,7 @@ fn last_written(wrote: &[Write2], key: Key) -> Option<i64>
 
 // What a run sees of a key without asking: its last own write, else what it saw before.
 pub(crate) fn shown(wrote: &[Write2], seen: &[Known], key: Key) -> Option<i64>
-    ensures { result ≡ or_else (found (reverse wrote.now) key) (found seen.now key) }
+    ensures { result ≡ option_or (found (reverse wrote.now) key) (found seen.now key) }
 {
     match last_written(wrote, key) {
         Some(value) => Some(value),

@@ -5,6 +5,7 @@ use Rattle.txn_lang.specs.declared.tree.Block.{Block}
 use Rattle.txn_lang.specs.declared.tree.Stmt.{Stmt}
 use Rattle.txn_lang.specs.declared.tree.Stmt.TheVariants as stmt
 use Rattle.txn_lang.specs.Tree.{Commands, Repeat, command, commands, term}
+use Rattle.txn_lang.specs.declared.limits.TheConstants.{MOST_STEPS}
 use Rattle.txn_lang.specs.Limits.{steps, steps_in, IsWithin}
 use Rattle.txn_lang.specs.Program.{Program, IsProgram}
 use Rattle.txn_lang.proofs.Trees.{command-If, command-Repeat}
@@ -31,7 +32,7 @@ pub with_finish : (ops all : List Op) (body : Commands) → map operation ops �
 with_finish ops all body e is = ap (map operation) is ∙ map_append ops (op.Finish ∷ []) ∙ ap (λ l. l ++ Finish ∷ []) e
 
 -- a block that a run can begin is short
-pub is_short : (ops : List Op) (cs : Commands) → map operation ops ≡ flat cs → steps cs ≤ 4096 → length ops ≤ 12288
+pub is_short : (ops : List Op) (cs : Commands) → map operation ops ≡ flat cs → steps cs ≤ MOST_STEPS → length ops ≤ 12288
 is_short ops cs e few = let l = map_length ops in let m = ap length e in let n = length_of cs in omega arith
 
 pub is_flat : (ops : List Op) (n : ℕ) (body : Commands) → IsWithin n body → map operation ops ≡ flat_program body →
@@ -103,20 +104,20 @@ loop_emitted o1 o2 o3 ops s body times further n is t some e1 e2 e3 hn h =
     ∙ ap flat_in (sym (command-Repeat times body))
     ∙ ap (λ x. flat_in (command x)) (sym is)
 
-pub few_first : (s : Stmt) (e : Expr) (a b : Block) → s ≡ stmt.If e a b → steps_in (command s) ≤ 4096 → steps (commands a) ≤ 4096
+pub few_first : (s : Stmt) (e : Expr) (a b : Block) → s ≡ stmt.If e a b → steps_in (command s) ≤ MOST_STEPS → steps (commands a) ≤ MOST_STEPS
 few_first s e a b is few =
-    let h : 1 + (steps (commands a) + steps (commands b)) ≤ 4096 = subst (λ k. steps_in k ≤ 4096) (ap command is ∙ command-If e a b) few in
+    let h : 1 + (steps (commands a) + steps (commands b)) ≤ MOST_STEPS = subst (λ k. steps_in k ≤ MOST_STEPS) (ap command is ∙ command-If e a b) few in
     omega (arith, h)
 
-pub few_second : (s : Stmt) (e : Expr) (a b : Block) → s ≡ stmt.If e a b → steps_in (command s) ≤ 4096 → steps (commands b) ≤ 4096
+pub few_second : (s : Stmt) (e : Expr) (a b : Block) → s ≡ stmt.If e a b → steps_in (command s) ≤ MOST_STEPS → steps (commands b) ≤ MOST_STEPS
 few_second s e a b is few =
-    let h : 1 + (steps (commands a) + steps (commands b)) ≤ 4096 = subst (λ k. steps_in k ≤ 4096) (ap command is ∙ command-If e a b) few in
+    let h : 1 + (steps (commands a) + steps (commands b)) ≤ MOST_STEPS = subst (λ k. steps_in k ≤ MOST_STEPS) (ap command is ∙ command-If e a b) few in
     omega (arith, h)
 
-pub few_turn : (s : Stmt) (body : Block) (times further : ℕ) → s ≡ stmt.Repeat times body → times ≡ suc further → steps_in (command s) ≤ 4096 →
-    steps (commands body) ≤ 4096
+pub few_turn : (s : Stmt) (body : Block) (times further : ℕ) → s ≡ stmt.Repeat times body → times ≡ suc further → steps_in (command s) ≤ MOST_STEPS →
+    steps (commands body) ≤ MOST_STEPS
 few_turn s body times further is t few =
-    let h : 1 + suc further * steps (commands body) ≤ 4096 =
-    subst (λ k. steps_in k ≤ 4096) (ap command is ∙ command-Repeat times body ∙ ap (λ n. Repeat n (commands body)) t) few in
+    let h : 1 + suc further * steps (commands body) ≤ MOST_STEPS =
+    subst (λ k. steps_in k ≤ MOST_STEPS) (ap command is ∙ command-Repeat times body ∙ ap (λ n. Repeat n (commands body)) t) few in
     let e : suc further * steps (commands body) ≡ steps (commands body) + further * steps (commands body) = omega arith in
     omega (arith, h)

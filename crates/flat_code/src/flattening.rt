@@ -1,6 +1,7 @@
 ghost use Rattle.std.specs.Prelude.{◌≡◌, ◌≤◌, ◌<◌, ◌^◌, [], ◌∷◌, length, map, IfOk};
 ghost use Rattle.txn_lang.specs.Tree.{command, commands};
 ghost use Rattle.txn_lang.specs.Limits.{steps_in, steps};
+ghost use Rattle.txn_lang.specs.declared.limits.TheConstants.{MOST_STEPS};
 ghost use Rattle.flat_code.specs.Operation.{operation};
 ghost use Rattle.flat_code.specs.Flat.{flat_in, flat};
 ghost use Rattle.flat_code.specs.Does.{IsCodeOf};
@@ -30,7 +31,7 @@ fn size(ops: &List<Op>) -> u32
 
 #[cycle(flat)]
 fn flat_in(alloc: Global, stmt: &Stmt) -> Result<List<Op>, NoMemory>
-    requires { steps_in (command stmt.now) ≤ 4096 }
+    requires { steps_in (command stmt.now) ≤ MOST_STEPS }
     ensures { IfOk result (λ ops. map operation ops ≡ flat_in (command stmt.now)) }
 {
     match stmt {
@@ -70,7 +71,7 @@ fn flat_in(alloc: Global, stmt: &Stmt) -> Result<List<Op>, NoMemory>
 
 #[cycle(flat)]
 fn flat(alloc: Global, block: &Block) -> Result<List<Op>, NoMemory>
-    requires { steps (commands block.now) ≤ 4096 }
+    requires { steps (commands block.now) ≤ MOST_STEPS }
     ensures { IfOk result (λ ops. map operation ops ≡ flat (commands block.now)) }
 {
     let mut ops = List::new(alloc);

@@ -1,6 +1,6 @@
 use Rattle.std.proofs.Common.{◌≡◌, ◌+◌, [], ◌∷◌, ◌++◌, reverse, Some, None, refl, sym, ap, ◌∙◌, w64, to_z, of_z, rules}
 use Rattle.txn_lang.specs.Keys.{found}
-use Rattle.txn_lang.specs.Laws.{or_else}
+use Rattle.std.specs.Option.{option_or}
 use Rattle.flat_code.specs.Step.{gives}
 use Rattle.flat_code.specs.Does.{fetched, answered_at}
 use Rattle.continuation.specs.Underway.{did}
@@ -44,7 +44,7 @@ returns-in-Some-clause-next g c = λ i a known knows u.
     let k = c.in-Asks.key in
     let seen = c.args.seen.now in
     let same : to_z w64 (of_z w64 c.in-Some.value) ≡ c.in-Some.value = search rules in
-    let h = sym c.in-Some.is ∙ c.shown.ensures ∙ ap (λ w. or_else (found (reverse w) k) (found seen k)) c.as_slice.ensures in
+    let h = sym c.in-Some.is ∙ c.shown.ensures ∙ ap (λ w. option_or (found (reverse w) k) (found seen k)) c.as_slice.ensures in
     showed c.args.code.now i c.args.self.now.at c.step_op.new.at d (d.ran + c.ticks.result) a known u
     (ap (λ n. d.ran + n) c.ticks.ensures.ticks) k c.in-Some.value c.give_answer.new.at
     (shown_now d.wrote seen known k (Some c.in-Some.value) knows h)
@@ -56,7 +56,7 @@ returns-in-None-clause-next g c = λ i a known knows u.
     let d = did c.args.self.now in
     let k = c.in-Asks.key in
     let seen = c.args.seen.now in
-    let h = sym c.in-None.is ∙ c.shown.ensures ∙ ap (λ w. or_else (found (reverse w) k) (found seen k)) c.as_slice.ensures in
+    let h = sym c.in-None.is ∙ c.shown.ensures ∙ ap (λ w. option_or (found (reverse w) k) (found seen k)) c.as_slice.ensures in
     asks c.args.code.now i c.args.self.now.at c.step_op.new.at d (d.ran + c.ticks.result) a known u
     (ap (λ n. d.ran + n) c.ticks.ensures.ticks) k (shown_now d.wrote seen known k None knows h)
     (sym c.in_ok-step_op.ensures.step ∙ ap (λ o. gives o c.step_op.new.at) c.in-Asks.is)
