@@ -15,8 +15,8 @@ use Rattle.protocol.proofs.ListsLemmas.{IsIn-left, IsIn-right, IsIn-cases, at_ca
 use Rattle.protocol.proofs.DistinctLemmas.{distinct_more, distinct_map_more, absent}
 use Rattle.std.proofs.lemmas.List.{map-id}
 use Rattle.protocol.specs.Quorums.{HasNoRepeats}
-use Rattle.law_steps.proofs.ClientActs.{Act, IsRunning, SameStage}
-use Rattle.law_steps.proofs.ClientActs.Act.{Quiet, Advances, Prepares, Counts, Proposes, Accepts, Decides, Gives_up, Learns}
+use Rattle.law_steps.proofs.ClientActs.{ClientAct, IsRunning, SameStage}
+use Rattle.law_steps.proofs.ClientActs.ClientAct.{Quiet, Advances, Prepares, Counts, Proposes, Accepts, Decides, Gives_up, Learns}
 use Rattle.law_steps.proofs.Reach.{Step, Reach, ByClientAct, GotAt}
 use Rattle.law_steps.proofs.Reach.Step.{Stands, Client_acts, Replica_acts, Warden_acts}
 use Rattle.law_steps.proofs.Reach.From.{Begins, Next}
@@ -53,70 +53,70 @@ evidence_grows p w w' s x k vs o acs e = record {
 }
 
 -- a new state is evident in the new world, where the old one was in it, and what the act sent is there
-act_evident : (p : Plan) (w w' : World) → Reach p w → Step p w w' → (c : ℕ) (s : ClientState) (sent : List Body) → ((b : Body) → IsIn b sent → WasSent w' b) → Act (rules p c) (GotAt w c) (w.client c) s sent → Evident p.replicas w' (w.client c) → Evident p.replicas w' s
-act_evident p w w' q st c s sent new (Quiet e d g u) t = record { phase = λ k vs o acs h. rw e (t.phase k vs o acs (same (w.client c).phase g k vs o acs h)) }
+act_evident : (p : Plan) (w w' : World) → Reach p w → Step p w w' → (c : ℕ) (s : ClientState) (sent : List Body) → ((b : Body) → IsIn b sent → WasSent w' b) → ClientAct (rules p c) (GotAt w c) (w.client c) s sent → Evident p.replicas w' (w.client c) → Evident p.replicas w' s
+act_evident p w w' q st c s sent new (Quiet act) t = record { phase = λ k vs o acs h. rw act.exec (t.phase k vs o acs (same (w.client c).phase act.stage k vs o acs h)) }
   where
     same : (z : Phase) → SameStage z s.phase → (k : Content) (vs : List CountedVote) (o : Option Choice) (acs : List ℕ) → s.phase ≡ Prepared k vs o acs → z ≡ Prepared k vs o acs
     same Between g k vs o acs h = cc
     same (Running a b) g k vs o acs h = absurd (subst IsRunning h g)
     same (Prepared k' v' o' a') g k vs o acs h = sym g ∙ h
-act_evident p w w' q st c s sent new (Advances u n l c' d r) t = record { phase = λ k vs o acs h. absurd (subst IsRunning h n) }
-act_evident p w w' q st c s sent new (Prepares k0 n e d f u) t = record { phase = λ k vs o acs h. go k vs o acs (sym h ∙ f) }
+act_evident p w w' q st c s sent new (Advances act) t = record { phase = λ k vs o acs h. absurd (subst IsRunning h act.running) }
+act_evident p w w' q st c s sent new (Prepares act) t = record { phase = λ k vs o acs h. go k vs o acs (sym h ∙ act.phase) }
   where
-    go : (k : Content) (vs : List CountedVote) (o : Option Choice) (acs : List ℕ) → Prepared k vs o acs ≡ Prepared k0 [] None [] → Evidence p.replicas w' s.exec k vs o acs
-    go k vs o acs z = let z1 : k ≡ k0 = cc in let z2 : vs ≡ [] = cc in let z3 : o ≡ None = cc in let z4 : acs ≡ [] = cc in rw (z1, z2, z3, z4) (record {
-      prepare = rw e (new (Prepare (w.client c).exec k0) (rw u (inl refl)));
+    go : (k : Content) (vs : List CountedVote) (o : Option Choice) (acs : List ℕ) → Prepared k vs o acs ≡ Prepared act.content [] None [] → Evidence p.replicas w' s.exec k vs o acs
+    go k vs o acs z = let z1 : k ≡ act.content = cc in let z2 : vs ≡ [] = cc in let z3 : o ≡ None = cc in let z4 : acs ≡ [] = cc in rw (z1, z2, z3, z4) (record {
+      prepare = rw act.exec (new (Prepare (w.client c).exec act.content) (rw act.sends (inl refl)));
       ballot = λ b i. absurd i;
       voters = tt;
       accept = λ j i. absurd i;
       accepters = tt;
       proposed = λ d y. cc;
     })
-act_evident p w w' q st c s sent new (Counts k0 vs0 ac0 j v a got range b e d f u) t = record { phase = λ k vs o acs h. go k vs o acs (sym h ∙ f) }
+act_evident p w w' q st c s sent new (Counts act) t = record { phase = λ k vs o acs h. go k vs o acs (sym h ∙ act.phase) }
   where
-    old : Evidence p.replicas w' (w.client c).exec k0 vs0 None ac0
-    old = t.phase k0 vs0 None ac0 a
+    old : Evidence p.replicas w' (w.client c).exec act.content act.votes None act.accepts
+    old = t.phase act.content act.votes None act.accepts act.before
 
-    heard : vote (w'.replica j) (w.client c).exec ≡ Some v
-    heard = voted_grows p w w' st _ v j (subst (RFact j (w.replica j)) got.4 ((facts_reach p w q).said got.0 j got.1 got.3))
+    heard : vote (w'.replica act.replica) (w.client c).exec ≡ Some act.vote
+    heard = voted_grows p w w' st _ act.vote act.replica (subst (RFact act.replica (w.replica act.replica)) act.got.4 ((facts_reach p w q).said act.got.0 act.replica act.got.1 act.got.3))
 
-    go : (k : Content) (vs : List CountedVote) (o : Option Choice) (acs : List ℕ) → Prepared k vs o acs ≡ Prepared k0 (vs0 ++ record { replica = j; vote = v } ∷ []) None [] → Evidence p.replicas w' s.exec k vs o acs
-    go k vs o acs z = let z1 : k ≡ k0 = cc in let z2 : vs ≡ vs0 ++ record { replica = j; vote = v } ∷ [] = cc in let z3 : o ≡ None = cc in let z4 : acs ≡ [] = cc in rw (z1, z2, z3, z4, e) (record {
+    go : (k : Content) (vs : List CountedVote) (o : Option Choice) (acs : List ℕ) → Prepared k vs o acs ≡ Prepared act.content (act.votes ++ record { replica = act.replica; vote = act.vote } ∷ []) None [] → Evidence p.replicas w' s.exec k vs o acs
+    go k vs o acs z = let z1 : k ≡ act.content = cc in let z2 : vs ≡ act.votes ++ record { replica = act.replica; vote = act.vote } ∷ [] = cc in let z3 : o ≡ None = cc in let z4 : acs ≡ [] = cc in rw (z1, z2, z3, z4, act.exec) (record {
       prepare = old.prepare;
-      ballot = λ x i. elim (IsIn-cases x vs0 (record { replica = j; vote = v } ∷ []) i) [ inl m ↦ old.ballot x m | inr m ↦ elim m [ inl y ↦ rw y (range, heard) | inr y ↦ absurd y ] ];
-      voters = distinct_map_more (λ (x : CountedVote). x.replica) vs0 (record { replica = j; vote = v }) old.voters b;
+      ballot = λ x i. elim (IsIn-cases x act.votes (record { replica = act.replica; vote = act.vote } ∷ []) i) [ inl m ↦ old.ballot x m | inr m ↦ elim m [ inl y ↦ rw y (act.range, heard) | inr y ↦ absurd y ] ];
+      voters = distinct_map_more (λ (x : CountedVote). x.replica) act.votes (record { replica = act.replica; vote = act.vote }) old.voters act.fresh;
       accept = λ i m. absurd m;
       accepters = tt;
       proposed = λ d y. cc;
     })
-act_evident p w w' q st c s sent new (Proposes k0 vs0 ac0 d0 a m e d f u) t = record { phase = λ k vs o acs h. go k vs o acs (sym h ∙ f) }
+act_evident p w w' q st c s sent new (Proposes act) t = record { phase = λ k vs o acs h. go k vs o acs (sym h ∙ act.phase) }
   where
-    go : (k : Content) (vs : List CountedVote) (o : Option Choice) (acs : List ℕ) → Prepared k vs o acs ≡ Prepared k0 vs0 (Some d0) [] → Evidence p.replicas w' s.exec k vs o acs
-    go k vs o acs z = let old = t.phase k0 vs0 None ac0 a in let z1 : k ≡ k0 = cc in let z2 : vs ≡ vs0 = cc in let z3 : o ≡ Some d0 = cc in let z4 : acs ≡ [] = cc in rw (z1, z2, z3, z4, e) (record {
+    go : (k : Content) (vs : List CountedVote) (o : Option Choice) (acs : List ℕ) → Prepared k vs o acs ≡ Prepared act.content act.votes (Some act.choice) [] → Evidence p.replicas w' s.exec k vs o acs
+    go k vs o acs z = let old = t.phase act.content act.votes None act.accepts act.before in let z1 : k ≡ act.content = cc in let z2 : vs ≡ act.votes = cc in let z3 : o ≡ Some act.choice = cc in let z4 : acs ≡ [] = cc in rw (z1, z2, z3, z4, act.exec) (record {
       prepare = old.prepare;
       ballot = old.ballot;
       voters = old.voters;
       accept = λ i n. absurd n;
       accepters = tt;
-      proposed = λ g y. let y1 : d0 ≡ g = cc in rw (← y1) (new (Finalize (w.client c).exec 0 d0 (content_for k0 d0)) (rw u (inl refl)));
+      proposed = λ g y. let y1 : act.choice ≡ g = cc in rw (← y1) (new (Finalize (w.client c).exec 0 act.choice (content_for act.content act.choice)) (rw act.sends (inl refl)));
     })
-act_evident p w w' q st c s sent new (Accepts k0 vs0 d0 ac0 j a got range b e d f u) t = record { phase = λ k vs o acs h. go k vs o acs (sym h ∙ f) }
+act_evident p w w' q st c s sent new (Accepts act) t = record { phase = λ k vs o acs h. go k vs o acs (sym h ∙ act.phase) }
   where
-    heard : AcceptedFact (w'.replica j) (w.client c).exec 0
-    heard = accepted_fact_grows p w w' st _ 0 j (subst (RFact j (w.replica j)) got.4 ((facts_reach p w q).said got.0 j got.1 got.3))
+    heard : AcceptedFact (w'.replica act.replica) (w.client c).exec 0
+    heard = accepted_fact_grows p w w' st _ 0 act.replica (subst (RFact act.replica (w.replica act.replica)) act.got.4 ((facts_reach p w q).said act.got.0 act.replica act.got.1 act.got.3))
 
-    go : (k : Content) (vs : List CountedVote) (o : Option Choice) (acs : List ℕ) → Prepared k vs o acs ≡ Prepared k0 vs0 (Some d0) (ac0 ++ j ∷ []) → Evidence p.replicas w' s.exec k vs o acs
-    go k vs o acs z = let old = t.phase k0 vs0 (Some d0) ac0 a in let z1 : k ≡ k0 = cc in let z2 : vs ≡ vs0 = cc in let z3 : o ≡ Some d0 = cc in let z4 : acs ≡ ac0 ++ j ∷ [] = cc in rw (z1, z2, z3, z4, e) (record {
+    go : (k : Content) (vs : List CountedVote) (o : Option Choice) (acs : List ℕ) → Prepared k vs o acs ≡ Prepared act.content act.votes (Some act.choice) (act.accepts ++ act.replica ∷ []) → Evidence p.replicas w' s.exec k vs o acs
+    go k vs o acs z = let old = t.phase act.content act.votes (Some act.choice) act.accepts act.before in let z1 : k ≡ act.content = cc in let z2 : vs ≡ act.votes = cc in let z3 : o ≡ Some act.choice = cc in let z4 : acs ≡ act.accepts ++ act.replica ∷ [] = cc in rw (z1, z2, z3, z4, act.exec) (record {
       prepare = old.prepare;
       ballot = old.ballot;
       voters = old.voters;
-      accept = λ x i. elim (IsIn-cases x ac0 (j ∷ []) i) [ inl m ↦ old.accept x m | inr m ↦ elim m [ inl y ↦ rw y (range, heard) | inr y ↦ absurd y ] ];
-      accepters = distinct_more ac0 j old.accepters (absent_id j ac0 b);
+      accept = λ x i. elim (IsIn-cases x act.accepts (act.replica ∷ []) i) [ inl m ↦ old.accept x m | inr m ↦ elim m [ inl y ↦ rw y (act.range, heard) | inr y ↦ absurd y ] ];
+      accepters = distinct_more act.accepts act.replica old.accepters (absent_id act.replica act.accepts act.fresh);
       proposed = old.proposed;
     })
-act_evident p w w' q st c s sent new (Decides k0 vs0 o0 ac0 d0 a m e d f u) t = record { phase = λ k vs o acs h. cc }
-act_evident p w w' q st c s sent new (Gives_up n e d f u) t = record { phase = λ k vs o acs h. cc }
-act_evident p w w' q st c s sent new (Learns j d0 k0 n got e d f u) t = record { phase = λ k vs o acs h. cc }
+act_evident p w w' q st c s sent new (Decides act) t = record { phase = λ k vs o acs h. cc }
+act_evident p w w' q st c s sent new (Gives_up act) t = record { phase = λ k vs o acs h. cc }
+act_evident p w w' q st c s sent new (Learns act) t = record { phase = λ k vs o acs h. cc }
 
 evident_grows : (p : Plan) (w w' : World) → Step p w w' → (s : ClientState) → Evident p.replicas w s → Evident p.replicas w' s
 evident_grows p w w' st s t = record { phase = λ k vs o acs h. evidence_grows p w w' st s.exec k vs o acs (t.phase k vs o acs h) }
@@ -154,7 +154,7 @@ pub record DecisionsSent (w : World) (s : ClientState) : Type 0 where
 decisions_grow : (p : Plan) (w w' : World) → Step p w w' → (s : ClientState) → DecisionsSent w s → DecisionsSent w' s
 decisions_grow p w w' st s t = record { sent = λ d i. let k = t.sent d i in (k.0, sent_grows p w w' st _ k.1) }
 
-act_decisions : (p : Plan) (w w' : World) → Step p w w' → (c : ℕ) (s : ClientState) (sent : List Body) → ((b : Body) → IsIn b sent → WasSent w' b) → Act (rules p c) (GotAt w c) (w.client c) s sent → DecisionsSent w' (w.client c) → DecisionsSent w' s
+act_decisions : (p : Plan) (w w' : World) → Step p w w' → (c : ℕ) (s : ClientState) (sent : List Body) → ((b : Body) → IsIn b sent → WasSent w' b) → ClientAct (rules p c) (GotAt w c) (w.client c) s sent → DecisionsSent w' (w.client c) → DecisionsSent w' s
 act_decisions p w w' st c s sent new a t = go a
   where
     same : s.decisions ≡ (w.client c).decisions → DecisionsSent w' s
@@ -163,16 +163,16 @@ act_decisions p w w' st c s sent new a t = go a
     more : (n : Decision) → s.decisions ≡ n ∷ (w.client c).decisions → (o : Option Content) → WasSent w' (Decide n.exec n.choice o) → DecisionsSent w' s
     more n e o f = record { sent = λ d i. elim (rw e at i) [ inl z ↦ rw z (o, f) | inr j ↦ t.sent d j ] }
 
-    go : Act (rules p c) (GotAt w c) (w.client c) s sent → DecisionsSent w' s
-    go (Quiet e d g u) = same d
-    go (Advances u n l c' d r) = same d
-    go (Prepares k0 n e d f u) = same d
-    go (Counts k0 vs0 ac0 j v a got range b e d f u) = same d
-    go (Proposes k0 vs0 ac0 d0 a m e d f u) = same d
-    go (Accepts k0 vs0 d0 ac0 j a got range b e d f u) = same d
-    go (Decides k0 vs0 o0 ac0 d0 a m e d f u) = more (record { exec = (w.client c).exec; choice = d0 }) d (content_for k0 d0) (new (Decide (w.client c).exec d0 (content_for k0 d0)) (rw u (inl refl)))
-    go (Gives_up n e d f u) = more (record { exec = (w.client c).exec; choice = Abandon }) d None (new (Decide (w.client c).exec Abandon None) (rw u (inl refl)))
-    go (Learns j d0 k0 n got e d f u) = more (record { exec = (w.client c).exec; choice = d0 }) d k0 (sent_grows p w w' st _ (record { envelope = got.0; there = got.1; body = got.4 }))
+    go : ClientAct (rules p c) (GotAt w c) (w.client c) s sent → DecisionsSent w' s
+    go (Quiet act) = same act.decisions
+    go (Advances act) = same act.decisions
+    go (Prepares act) = same act.decisions
+    go (Counts act) = same act.decisions
+    go (Proposes act) = same act.decisions
+    go (Accepts act) = same act.decisions
+    go (Decides act) = more (record { exec = (w.client c).exec; choice = act.choice }) act.decisions (content_for act.content act.choice) (new (Decide (w.client c).exec act.choice (content_for act.content act.choice)) (rw act.sends (inl refl)))
+    go (Gives_up act) = more (record { exec = (w.client c).exec; choice = Abandon }) act.decisions None (new (Decide (w.client c).exec Abandon None) (rw act.sends (inl refl)))
+    go (Learns act) = more (record { exec = (w.client c).exec; choice = act.choice }) act.decisions act.content (sent_grows p w w' st _ (record { envelope = act.got.0; there = act.got.1; body = act.got.4 }))
 
 pub decisions_reach : (p : Plan) → 0 < p.replicas → (w : World) → Reach p w → (c : ℕ) → DecisionsSent w (w.client c)
 decisions_reach p pos _ Begins c = record { sent = λ d i. absurd i }

@@ -10,8 +10,8 @@ use Rattle.protocol.specs.Client.State.Phase.{Prepared}
 use Rattle.protocol.specs.Warden.State.{WardenState, Round, ToldAnswer, Proposal, Parcel}
 use Rattle.protocol.specs.Warden.Recovery.{fixed, with_content, told_content}
 use Rattle.protocol.specs.World.State.{Plan, World, rules, warden_rules}
-use Rattle.law_steps.proofs.ClientActs.{Act, IsQuiet}
-use Rattle.law_steps.proofs.ClientActs.Act.{Quiet, Advances, Prepares, Counts, Proposes, Accepts, Decides, Gives_up, Learns}
+use Rattle.law_steps.proofs.ClientActs.{ClientAct, IsQuiet}
+use Rattle.law_steps.proofs.ClientActs.ClientAct.{Quiet, Advances, Prepares, Counts, Proposes, Accepts, Decides, Gives_up, Learns}
 use Rattle.law_safety.proofs.ChoiceOfTolds.{chosen}
 use Rattle.protocol.proofs.ListsLemmas.{at_cases, at_same, IsIn-right}
 use Rattle.law_steps.proofs.Reach.Step.{Stands, Client_acts, Replica_acts, Warden_acts}
@@ -91,16 +91,16 @@ module _ (p : Plan) (pos : 0 < p.replicas) (w w' : World) (q : Reach p w) (st : 
       ev : (l : Content) (vs : List CountedVote) (o : Option Choice) (acs : List ℕ) → (w.client cs.c).phase ≡ Prepared l vs o acs → WasSent w' (Prepare (w.client cs.c).exec l)
       ev l vs o acs a = grown _ l ((evident_reach p pos w q cs.c).phase l vs o acs a).prepare
 
-      go : Act (rules p cs.c) (GotAt w cs.c) (w.client cs.c) cs.state cs.sent → WasSent w' (Prepare x k)
-      go (Quiet e d' g u) = absurd (quiet_not cs.sent b (not_quiet b h) u i)
-      go (Advances a n l e d' u) = absurd (in_none cs.sent b u i)
-      go (Prepares l n e d' f u) = let z = in_single cs.sent _ b u i in let h2 : HasContent (Prepare (w.client cs.c).exec l) x k = subst (λ y. HasContent y x k) z h in subst (λ y. WasSent w' y) (z ∙ (let a = h2.0 in let e2 = h2.1 in cc)) t
-      go (Counts l vs acs j v a got r e f g n u) = absurd (in_none cs.sent b u i)
-      go (Proposes l vs acs d0 a m e f g u) = let z = in_single cs.sent _ b u i in let h2 : HasContent (Finalize (w.client cs.c).exec 0 d0 (content_for l d0)) x k = subst (λ y. HasContent y x k) z h in let same : l ≡ k = content_for_is l k d0 h2.1 in subst (λ y. WasSent w' (Prepare y k)) h2.0 (subst (λ y. WasSent w' (Prepare (w.client cs.c).exec y)) same (ev l vs None acs a))
-      go (Accepts l vs d0 acs j a got r e f g n u) = absurd (in_none cs.sent b u i)
-      go (Decides l vs o acs d0 a m e f g u) = let z = in_single cs.sent _ b u i in let h2 : HasContent (Decide (w.client cs.c).exec d0 (content_for l d0)) x k = subst (λ y. HasContent y x k) z h in let same : l ≡ k = content_for_is l k d0 h2.1 in subst (λ y. WasSent w' (Prepare y k)) h2.0 (subst (λ y. WasSent w' (Prepare (w.client cs.c).exec y)) same (ev l vs o acs a))
-      go (Gives_up n e f g u) = let z = in_single cs.sent _ b u i in let h2 : HasContent (Decide (w.client cs.c).exec Abandon None) x k = subst (λ y. HasContent y x k) z h in let e2 = h2.1 in cc
-      go (Learns j d0 l n got e f g u) = absurd (in_none cs.sent b u i)
+      go : ClientAct (rules p cs.c) (GotAt w cs.c) (w.client cs.c) cs.state cs.sent → WasSent w' (Prepare x k)
+      go (Quiet act) = absurd (quiet_not cs.sent b (not_quiet b h) act.quiet i)
+      go (Advances act) = absurd (in_none cs.sent b act.silent i)
+      go (Prepares act) = let z = in_single cs.sent _ b act.sends i in let h2 : HasContent (Prepare (w.client cs.c).exec act.content) x k = subst (λ y. HasContent y x k) z h in subst (λ y. WasSent w' y) (z ∙ (let a = h2.0 in let e2 = h2.1 in cc)) t
+      go (Counts act) = absurd (in_none cs.sent b act.silent i)
+      go (Proposes act) = let z = in_single cs.sent _ b act.sends i in let h2 : HasContent (Finalize (w.client cs.c).exec 0 act.choice (content_for act.content act.choice)) x k = subst (λ y. HasContent y x k) z h in let same : act.content ≡ k = content_for_is act.content k act.choice h2.1 in subst (λ y. WasSent w' (Prepare y k)) h2.0 (subst (λ y. WasSent w' (Prepare (w.client cs.c).exec y)) same (ev act.content act.votes None act.accepts act.before))
+      go (Accepts act) = absurd (in_none cs.sent b act.silent i)
+      go (Decides act) = let z = in_single cs.sent _ b act.sends i in let h2 : HasContent (Decide (w.client cs.c).exec act.choice (content_for act.content act.choice)) x k = subst (λ y. HasContent y x k) z h in let same : act.content ≡ k = content_for_is act.content k act.choice h2.1 in subst (λ y. WasSent w' (Prepare y k)) h2.0 (subst (λ y. WasSent w' (Prepare (w.client cs.c).exec y)) same (ev act.content act.votes act.proposal act.accepts act.before))
+      go (Gives_up act) = let z = in_single cs.sent _ b act.sends i in let h2 : HasContent (Decide (w.client cs.c).exec Abandon None) x k = subst (λ y. HasContent y x k) z h in let e2 = h2.1 in cc
+      go (Learns act) = absurd (in_none cs.sent b act.silent i)
 
   -- what a warden's round proposes
   round_content : (ws : ByWardenAct p w w') (a : Round) → IsIn a (w'.warden ws.k).rounds → (d : Choice) (k : Content) → a.proposal ≡ Some (record { choice = d; content = Some k }) → WasSent w' (Prepare a.exec k)

@@ -12,9 +12,9 @@ use Rattle.law_safety.specs.Tries.{OneExecution, OneExecutionOf}
 use Rattle.protocol.proofs.ListsLemmas.{at_same}
 use Rattle.protocol.proofs.QuorumsLemmas.{quorums_meet}
 use Rattle.law_steps.proofs.PhaseLemmas.{running_under_way, running_between}
-use Rattle.law_steps.proofs.ClientActs.{Act, IsRunning, TryStep}
+use Rattle.law_steps.proofs.ClientActs.{ClientAct, IsRunning, TryStep}
 use Rattle.law_steps.proofs.ClientActs.TryStep.{Keeps, Next_exec, Next_try}
-use Rattle.law_steps.proofs.ClientActs.Act.{Quiet, Advances, Prepares, Counts, Proposes, Accepts, Decides, Gives_up, Learns}
+use Rattle.law_steps.proofs.ClientActs.ClientAct.{Quiet, Advances, Prepares, Counts, Proposes, Accepts, Decides, Gives_up, Learns}
 use Rattle.law_steps.proofs.Reach.{Step, Reach, GotAt}
 use Rattle.law_steps.proofs.Reach.From.{Begins, Next}
 use Rattle.law_steps.proofs.ClientFacts.{At, HasPrepared, rec_reach, not_at, running_prepared}
@@ -31,16 +31,16 @@ use Rattle.law_steps.proofs.TryRec.{try_rec, client_tries}
 use Rattle.law_steps.proofs.AlwaysLemmas.{always}
 
 -- a Prepare of client c that was sent in a step is of the execution under way
-prepares_act : (r : Rules) (Got : NodeId → Body → Type 0) (s s' : ClientState) (sent : List Body) → Act r Got s s' sent → (x : Exec) (k : Content) → IsIn (Prepare x k) sent → (x ≡ s.exec) × IsRunning s.phase × (s'.exec ≡ s.exec)
-prepares_act r Got s s' sent (Quiet e d' g q) x k i = absurd (quiet_not sent _ (λ z. z) q i)
-prepares_act r Got s s' sent (Advances u n l c d' q) x k i = absurd (in_none sent _ q i)
-prepares_act r Got s s' sent (Prepares k0 n e d' f q) x k i = let z = in_single sent _ _ q i in let y : x ≡ s.exec = cc in (y, n, e)
-prepares_act r Got s s' sent (Counts k0 vs acs j w a got b c e d' f q) x k i = absurd (in_none sent _ q i)
-prepares_act r Got s s' sent (Proposes k0 vs acs d0 a b c e f q) x k i = let z = in_single sent _ _ q i in cc
-prepares_act r Got s s' sent (Accepts k0 vs d0 acs j a got b c e d' f q) x k i = absurd (in_none sent _ q i)
-prepares_act r Got s s' sent (Decides k0 vs o' acs d0 a w e d' f q) x k i = let z = in_single sent _ _ q i in cc
-prepares_act r Got s s' sent (Gives_up n e d' f q) x k i = let z = in_single sent _ _ q i in cc
-prepares_act r Got s s' sent (Learns j d0 k0 n got e d' f q) x k i = absurd (in_none sent _ q i)
+prepares_act : (r : Rules) (Got : NodeId → Body → Type 0) (s s' : ClientState) (sent : List Body) → ClientAct r Got s s' sent → (x : Exec) (k : Content) → IsIn (Prepare x k) sent → (x ≡ s.exec) × IsRunning s.phase × (s'.exec ≡ s.exec)
+prepares_act r Got s s' sent (Quiet act) x k i = absurd (quiet_not sent _ (λ z. z) act.quiet i)
+prepares_act r Got s s' sent (Advances act) x k i = absurd (in_none sent _ act.silent i)
+prepares_act r Got s s' sent (Prepares act) x k i = let z = in_single sent _ _ act.sends i in let y : x ≡ s.exec = cc in (y, act.running, act.exec)
+prepares_act r Got s s' sent (Counts act) x k i = absurd (in_none sent _ act.silent i)
+prepares_act r Got s s' sent (Proposes act) x k i = let z = in_single sent _ _ act.sends i in cc
+prepares_act r Got s s' sent (Accepts act) x k i = absurd (in_none sent _ act.silent i)
+prepares_act r Got s s' sent (Decides act) x k i = let z = in_single sent _ _ act.sends i in cc
+prepares_act r Got s s' sent (Gives_up act) x k i = let z = in_single sent _ _ act.sends i in cc
+prepares_act r Got s s' sent (Learns act) x k i = absurd (in_none sent _ act.silent i)
 
 fresh : (p : Plan) (w w' : World) → Reach p w → Step p w w' → (x : Exec) (k : Content) → WasSent w' (Prepare x k)
     → WasSent w (Prepare x k) ⊎ ((x ≡ (w.client x.ver.client).exec) × IsRunning (w.client x.ver.client).phase × ((w'.client x.ver.client).exec ≡ (w.client x.ver.client).exec))

@@ -18,10 +18,10 @@ use Rattle.protocol.specs.World.State.{Plan, World, rules, warden_rules}
 use Rattle.protocol.proofs.ListsLemmas.{IsIn-cases, IsIn-one_when, at_same}
 use Rattle.protocol.specs.World.Decided.{WasSent}
 use Rattle.law_steps.proofs.MailLemmas.{took_reach}
-use Rattle.law_steps.proofs.ClientActs.{Act}
-use Rattle.law_steps.proofs.ClientActs.Act.{Quiet, Advances, Prepares, Counts, Proposes, Accepts, Decides, Gives_up, Learns}
-use Rattle.law_steps.proofs.WardenActs.{WAct}
-use Rattle.law_steps.proofs.WardenActs.WAct.{Stills, Asks, Tolds, Accepts as Ward_accepts, Begins_cut, Counts_fenced, Ends_cut}
+use Rattle.law_steps.proofs.ClientActs.{ClientAct}
+use Rattle.law_steps.proofs.ClientActs.ClientAct.{Quiet, Advances, Prepares, Counts, Proposes, Accepts, Decides, Gives_up, Learns}
+use Rattle.law_steps.proofs.WardenActs.{WardenAct}
+use Rattle.law_steps.proofs.WardenActs.WardenAct.{Rests, Asks, Counts_told, Counts_accepted, Begins_truncation, Counts_fenced, Ends_truncation}
 use Rattle.law_steps.proofs.Reach.{Reach, GotAt, HeardAt}
 use Rattle.law_steps.proofs.Reach.From.{Begins, Next}
 use Rattle.law_steps.proofs.SendingLemmas.{parcel_body}
@@ -68,27 +68,27 @@ unfolding fixed
 fixed_shaped ts = with_content_shaped _ (told_content ts)
 
 -- a client decides so, and drops nothing
-client_shaped : (r : Rules) (Got : NodeId → Body → Type 0) (s s' : ClientState) (sent : List Body) → Act r Got s s' sent → (x : Exec) (d : Choice) (o : Option Content) → IsIn (Decide x d o) sent → Shaped d o
-client_shaped r Got s s' sent (Quiet e d' g q) x d o i = absurd (quiet_not sent _ (λ z. z) q i)
-client_shaped r Got s s' sent (Advances u n l c d' q) x d o i = absurd (in_none sent _ q i)
-client_shaped r Got s s' sent (Prepares k n e d' f q) x d o i = let z = in_single sent _ _ q i in cc
-client_shaped r Got s s' sent (Counts k vs acs j w a got b c e d' f q) x d o i = absurd (in_none sent _ q i)
-client_shaped r Got s s' sent (Proposes k vs acs d0 a b c e f q) x d o i = let z = in_single sent _ _ q i in cc
-client_shaped r Got s s' sent (Accepts k vs d0 acs j a got b c e d' f q) x d o i = absurd (in_none sent _ q i)
-client_shaped r Got s s' sent (Decides k vs o' acs d0 a w e d' f q) x d o i = let z = in_single sent _ _ q i in let z1 : d ≡ d0 = cc in let z2 : o ≡ content_for k d0 = cc in subst (λ y. Shaped y o) (sym z1) (subst (λ y. Shaped d0 y) (sym z2) (content_for_shaped k d0))
-client_shaped r Got s s' sent (Gives_up n e d' f q) x d o i = let z = in_single sent _ _ q i in let z1 : d ≡ Abandon = cc in let z2 : o ≡ None = cc in subst (λ y. Shaped y o) (sym z1) (subst (λ y. Shaped Abandon y) (sym z2) tt)
-client_shaped r Got s s' sent (Learns j d0 k n got e d' f q) x d o i = absurd (in_none sent _ q i)
+client_shaped : (r : Rules) (Got : NodeId → Body → Type 0) (s s' : ClientState) (sent : List Body) → ClientAct r Got s s' sent → (x : Exec) (d : Choice) (o : Option Content) → IsIn (Decide x d o) sent → Shaped d o
+client_shaped r Got s s' sent (Quiet act) x d o i = absurd (quiet_not sent _ (λ z. z) act.quiet i)
+client_shaped r Got s s' sent (Advances act) x d o i = absurd (in_none sent _ act.silent i)
+client_shaped r Got s s' sent (Prepares act) x d o i = let z = in_single sent _ _ act.sends i in cc
+client_shaped r Got s s' sent (Counts act) x d o i = absurd (in_none sent _ act.silent i)
+client_shaped r Got s s' sent (Proposes act) x d o i = let z = in_single sent _ _ act.sends i in cc
+client_shaped r Got s s' sent (Accepts act) x d o i = absurd (in_none sent _ act.silent i)
+client_shaped r Got s s' sent (Decides act) x d o i = let z = in_single sent _ _ act.sends i in let z1 : d ≡ act.choice = cc in let z2 : o ≡ content_for act.content act.choice = cc in subst (λ y. Shaped y o) (sym z1) (subst (λ y. Shaped act.choice y) (sym z2) (content_for_shaped act.content act.choice))
+client_shaped r Got s s' sent (Gives_up act) x d o i = let z = in_single sent _ _ act.sends i in let z1 : d ≡ Abandon = cc in let z2 : o ≡ None = cc in subst (λ y. Shaped y o) (sym z1) (subst (λ y. Shaped Abandon y) (sym z2) tt)
+client_shaped r Got s s' sent (Learns act) x d o i = absurd (in_none sent _ act.silent i)
 
-pub client_no_drop : (r : Rules) (Got : NodeId → Body → Type 0) (s s' : ClientState) (sent : List Body) → Act r Got s s' sent → (v : Version) (b : List BaseEntry) → IsIn (Drops v b) sent → ⊥
-client_no_drop r Got s s' sent (Quiet e d' g q) v b i = quiet_not sent _ (λ z. z) q i
-client_no_drop r Got s s' sent (Advances u n l c d' q) v b i = in_none sent _ q i
-client_no_drop r Got s s' sent (Prepares k n e d' f q) v b i = let z = in_single sent _ _ q i in cc
-client_no_drop r Got s s' sent (Counts k vs acs j w a got b' c e d' f q) v b i = in_none sent _ q i
-client_no_drop r Got s s' sent (Proposes k vs acs d0 a b' c e f q) v b i = let z = in_single sent _ _ q i in cc
-client_no_drop r Got s s' sent (Accepts k vs d0 acs j a got b' c e d' f q) v b i = in_none sent _ q i
-client_no_drop r Got s s' sent (Decides k vs o' acs d0 a w e d' f q) v b i = let z = in_single sent _ _ q i in cc
-client_no_drop r Got s s' sent (Gives_up n e d' f q) v b i = let z = in_single sent _ _ q i in cc
-client_no_drop r Got s s' sent (Learns j d0 k n got e d' f q) v b i = in_none sent _ q i
+pub client_no_drop : (r : Rules) (Got : NodeId → Body → Type 0) (s s' : ClientState) (sent : List Body) → ClientAct r Got s s' sent → (v : Version) (b : List BaseEntry) → IsIn (Drops v b) sent → ⊥
+client_no_drop r Got s s' sent (Quiet act) v b i = quiet_not sent _ (λ z. z) act.quiet i
+client_no_drop r Got s s' sent (Advances act) v b i = in_none sent _ act.silent i
+client_no_drop r Got s s' sent (Prepares act) v b i = let z = in_single sent _ _ act.sends i in cc
+client_no_drop r Got s s' sent (Counts act) v b i = in_none sent _ act.silent i
+client_no_drop r Got s s' sent (Proposes act) v b i = let z = in_single sent _ _ act.sends i in cc
+client_no_drop r Got s s' sent (Accepts act) v b i = in_none sent _ act.silent i
+client_no_drop r Got s s' sent (Decides act) v b i = let z = in_single sent _ _ act.sends i in cc
+client_no_drop r Got s s' sent (Gives_up act) v b i = let z = in_single sent _ _ act.sends i in cc
+client_no_drop r Got s s' sent (Learns act) v b i = in_none sent _ act.silent i
 
 -- the truncation whose Drop a warden sent
 pub record DropOf (r : WardenRules) (s : WardenState) (v : Version) (b : List BaseEntry) : Type 0 where
@@ -99,23 +99,27 @@ pub record DropOf (r : WardenRules) (s : WardenState) (v : Version) (b : List Ba
   pub version : v ≡ trunc.w
   pub bases : b ≡ base_of trunc.w s trunc.answers
 
-pub ward_dropped : (r : WardenRules) (Got : NodeId → Body → Type 0) (s s' : WardenState) (sent : List Parcel) → WAct r Got s s' sent → (a : Parcel) (v : Version) (b : List BaseEntry) → IsIn a sent → Drops v b ≡ parcel_body a → DropOf r s v b
+pub ward_dropped : (r : WardenRules) (Got : NodeId → Body → Type 0) (s s' : WardenState) (sent : List Parcel) → WardenAct r Got s s' sent → (a : Parcel) (v : Version) (b : List BaseEntry) → IsIn a sent → Drops v b ≡ parcel_body a → DropOf r s v b
 unfolding recover next_view
-ward_dropped r Got s s' sent (Stills e q) a v b i z = absurd (no_parcels sent a q i)
-ward_dropped r Got s s' sent (Asks y e q) a v b i z = let k = ap parcel_body (in_parcels sent _ a q i) in cc
-ward_dropped r Got s s' sent (Tolds y u t a0 p f n got range l e (inl w)) a v b i z = absurd (no_parcels sent a w.1 i)
-ward_dropped r Got s s' sent (Tolds y u t a0 p f n got range l e (inr w)) a v b i z = let k = ap parcel_body (in_parcels sent _ a w.2 i) in cc
-ward_dropped r Got s s' sent (Begins_cut u g e q) a v b i z = let k = ap parcel_body (in_parcels sent _ a q i) in cc
-ward_dropped r Got s s' sent (Counts_fenced c ts d g got range l e q) a v b i z = absurd (no_parcels sent a q i)
-ward_dropped r Got s s' sent (Ends_cut c ts g l n e q) a v b i z = let k = ap parcel_body (in_parcels sent _ a q i) in
-    let same : Drops v b ≡ Drops c.w (base_of c.w s c.answers) = z ∙ k in let v_is : v ≡ c.w = cc in let b_is : b ≡ base_of c.w s c.answers = cc in
-    record { trunc = c; there = rw g (inl refl); many = l; all = n; version = v_is; bases = b_is }
-ward_dropped r Got s s' sent (Ward_accepts y u j a0 p f n got range l e e2 (inl w)) a v b i z = absurd (no_parcels sent a w.1 i)
-ward_dropped r Got s s' sent (Ward_accepts y u j a0 p f n got range l e e2 (inr w)) a v b i z = absurd (body (subst (λ (l : List Parcel). IsIn a l) w.2 i))
+ward_dropped r Got s s' sent (Rests act) a v b i z = absurd (no_parcels sent a act.silent i)
+ward_dropped r Got s s' sent (Asks act) a v b i z = let k = ap parcel_body (in_parcels sent _ a act.sends i) in cc
+ward_dropped r Got s s' sent (Counts_told act) a v b i z = elim act.outcome [
+  | inl w ↦ absurd (no_parcels sent a w.1 i)
+  | inr w ↦ let k = ap parcel_body (in_parcels sent _ a w.2 i) in cc
+]
+ward_dropped r Got s s' sent (Begins_truncation act) a v b i z = let k = ap parcel_body (in_parcels sent _ a act.sends i) in cc
+ward_dropped r Got s s' sent (Counts_fenced act) a v b i z = absurd (no_parcels sent a act.silent i)
+ward_dropped r Got s s' sent (Ends_truncation act) a v b i z = let k = ap parcel_body (in_parcels sent _ a act.sends i) in
+    let same : Drops v b ≡ Drops act.truncation.w (base_of act.truncation.w s act.truncation.answers) = z ∙ k in let v_is : v ≡ act.truncation.w = cc in let b_is : b ≡ base_of act.truncation.w s act.truncation.answers = cc in
+    record { trunc = act.truncation; there = rw act.truncations (inl refl); many = act.many; all = act.settled; version = v_is; bases = b_is }
+ward_dropped r Got s s' sent (Counts_accepted act) a v b i z = elim act.outcome [
+  | inl w ↦ absurd (no_parcels sent a w.1 i)
+  | inr w ↦ absurd (body (subst (λ (l : List Parcel). IsIn a l) w.2 i))
+]
   where
-    body : (a ≡ To_all (Decide y p.choice p.content)) ⊎ IsIn a (to_client r y (Decide y p.choice p.content)) → ⊥
-    body (inl h) = let k = ap parcel_body h in let m : Drops v b ≡ Decide y p.choice p.content = z ∙ k in cc
-    body (inr h) = let k = to_client_body r y (Decide y p.choice p.content) a h in let m : Drops v b ≡ Decide y p.choice p.content = z ∙ k in cc
+    body : (a ≡ To_all (Decide act.exec act.proposal.choice act.proposal.content)) ⊎ IsIn a (to_client r act.exec (Decide act.exec act.proposal.choice act.proposal.content)) → ⊥
+    body (inl h) = let k = ap parcel_body h in let m : Drops v b ≡ Decide act.exec act.proposal.choice act.proposal.content = z ∙ k in cc
+    body (inr h) = let k = to_client_body r act.exec (Decide act.exec act.proposal.choice act.proposal.content) a h in let m : Drops v b ≡ Decide act.exec act.proposal.choice act.proposal.content = z ∙ k in cc
 
 pub shaped_reach : (p : Plan) → 0 < p.replicas → (w : World) → Reach p w → (x : Exec) (d : Choice) (o : Option Content) → WasSent w (Decide x d o) → Shaped d o
 shaped_reach p pos _ Begins x d o t = absurd t.there

@@ -17,8 +17,8 @@ use Rattle.protocol.specs.World.Events.{parcel}
 use Rattle.std.proofs.lemmas.List.{length-append}
 use Rattle.protocol.proofs.NamesLemmas.{exec_is}
 use Rattle.protocol.proofs.ListsLemmas.{IsIn-left, IsIn-right, IsIn-cases, at_cases, map_in}
-use Rattle.law_steps.proofs.WardenActs.{WAct, told_round}
-use Rattle.law_steps.proofs.WardenActs.WAct.{Stills, Asks, Tolds, Accepts, Begins_cut, Counts_fenced, Ends_cut}
+use Rattle.law_steps.proofs.WardenActs.{WardenAct, told_round}
+use Rattle.law_steps.proofs.WardenActs.WardenAct.{Rests, Asks, Counts_told, Counts_accepted, Begins_truncation, Counts_fenced, Ends_truncation}
 use Rattle.law_steps.proofs.Reach.{Step, Reach, ByWardenAct, HeardAt}
 use Rattle.law_steps.proofs.Reach.Step.{Stands, Client_acts, Replica_acts, Warden_acts}
 use Rattle.law_steps.proofs.Reach.From.{Begins, Next}
@@ -90,79 +90,73 @@ none_some a e = cc
 some_is : {A : Type 0} {a b : A} → Some a ≡ Some b → a ≡ b
 some_is e = cc
 
-act_ward : (p : Plan) (w w' : World) → Reach p w → Step p w w' → (k : ℕ) (s : WardenState) (sent : List Parcel) → ((b : Body) → IsIn (To_all b) sent → WasSent w' b) → WAct (warden_rules p k) (HeardAt w k) (w.warden k) s sent → WardEvident p.replicas w' (w.warden k) → WardEvident p.replicas w' s
+act_ward : (p : Plan) (w w' : World) → Reach p w → Step p w w' → (k : ℕ) (s : WardenState) (sent : List Parcel) → ((b : Body) → IsIn (To_all b) sent → WasSent w' b) → WardenAct (warden_rules p k) (HeardAt w k) (w.warden k) s sent → WardEvident p.replicas w' (w.warden k) → WardEvident p.replicas w' s
 unfolding recover
-act_ward p w w' q st k s sent new (Stills e u) t = rw e t
-act_ward p w w' q st k s sent new (Asks x e u) t = rw e (record {
+act_ward p w w' q st k s sent new (Rests act) t = rw act.state t
+act_ward p w w' q st k s sent new (Asks act) t = rw act.state (record {
   round = λ a i. elim i [ inl z ↦ rw z (record { told = λ t i. absurd i; tellers = tt; accept = λ j i. absurd i; accepters = tt; fixed = λ y f. cc; proposed = λ y f. cc }) | inr j ↦ t.round a j ];
   decision = t.decision;
   trunc = t.trunc;
 })
-act_ward p w w' q st k s sent new (Tolds x v u a o f n got range l e h) t = rw e (record {
-  round = λ b i. elim (put_in x v (told_round a u o) (w.warden k).rounds b i) [ inl z ↦ rw z fresh | inr j ↦ t.round b j ];
+act_ward p w w' q st k s sent new (Counts_told act) t = rw act.state (record {
+  round = λ b i. elim (put_in act.exec act.view (told_round act.round act.told act.proposal) (w.warden k).rounds b i) [ inl z ↦ rw z fresh | inr j ↦ t.round b j ];
   decision = t.decision;
   trunc = t.trunc;
 })
   where
-    at_a : IsIn a (w.warden k).rounds × (a.exec ≡ x) × (a.view ≡ v)
-    at_a = round_found x v (w.warden k).rounds a f
-
-    heard : PartFact p.replicas w' x v u
-    heard = part_grows p w w' st x v u (range, subst (RFact u.replica (w.replica u.replica)) got.4 ((facts_reach p w q).said got.0 u.replica got.1 got.3))
-
-    choice_of : ((o ≡ None) × (sent ≡ [])) ⊎ ((o ≡ Some (fixed (a.tolds ++ u ∷ []))) × (quorum p.replicas ≤ suc (length a.tolds)) × (sent ≡ To_all (Finalize x v (fixed (a.tolds ++ u ∷ [])).choice (fixed (a.tolds ++ u ∷ [])).content) ∷ [])) → (y : Proposal) → o ≡ Some y → ((y ≡ fixed (a.tolds ++ u ∷ [])) × (quorum p.replicas ≤ length (a.tolds ++ u ∷ []))) × WasSent w' (Finalize a.exec a.view y.choice y.content)
+    choice_of : ((act.proposal ≡ None) × (sent ≡ [])) ⊎ ((act.proposal ≡ Some (fixed (act.round.tolds ++ act.told ∷ []))) × (quorum p.replicas ≤ suc (length act.round.tolds)) × (sent ≡ To_all (Finalize act.exec act.view (fixed (act.round.tolds ++ act.told ∷ [])).choice (fixed (act.round.tolds ++ act.told ∷ [])).content) ∷ [])) → (y : Proposal) → act.proposal ≡ Some y → ((y ≡ fixed (act.round.tolds ++ act.told ∷ [])) × (quorum p.replicas ≤ length (act.round.tolds ++ act.told ∷ []))) × WasSent w' (Finalize act.round.exec act.round.view y.choice y.content)
     choice_of (inl z) y m = absurd (let n = z.0 in let k : None ≡ Some y = sym n ∙ m in none_some y k)
-    choice_of (inr z) y m = let g = round_found x v (w.warden k).rounds a f in let e1 : y ≡ fixed (a.tolds ++ u ∷ []) = (let n = z.0 in some_is (sym m ∙ n)) in
-        ((e1, (let l = z.1 in rw length-append (omega (arith, l)))), rw (e1, g.1, g.2) (new (Finalize x v (fixed (a.tolds ++ u ∷ [])).choice (fixed (a.tolds ++ u ∷ [])).content) (rw z.2 (inl refl))))
+    choice_of (inr z) y m = let g = round_found act.exec act.view (w.warden k).rounds act.round act.found in let e1 : y ≡ fixed (act.round.tolds ++ act.told ∷ []) = (let n = z.0 in some_is (sym m ∙ n)) in
+        ((e1, (let l = z.1 in rw length-append (omega (arith, l)))), rw (e1, g.1, g.2) (new (Finalize act.exec act.view (fixed (act.round.tolds ++ act.told ∷ [])).choice (fixed (act.round.tolds ++ act.told ∷ [])).content) (rw z.2 (inl refl))))
 
-    fresh : RoundEvidence p.replicas w' (told_round a u o)
-    fresh = let g = round_found x v (w.warden k).rounds a f in let old = t.round a g.0 in record {
-      told = λ y i. elim (IsIn-cases y a.tolds (u ∷ []) i) [ inl j ↦ old.told y j | inr j ↦ elim j [ inl z ↦ rw (z, g.1, g.2) (part_grows p w w' st x v u (range, subst (RFact u.replica (w.replica u.replica)) got.4 ((facts_reach p w q).said got.0 u.replica got.1 got.3))) | inr z ↦ absurd z ] ];
-      tellers = distinct_map_more (λ (y : ToldAnswer). y.replica) a.tolds u old.tellers l;
+    fresh : RoundEvidence p.replicas w' (told_round act.round act.told act.proposal)
+    fresh = let g = round_found act.exec act.view (w.warden k).rounds act.round act.found in let old = t.round act.round g.0 in record {
+      told = λ y i. elim (IsIn-cases y act.round.tolds (act.told ∷ []) i) [ inl j ↦ old.told y j | inr j ↦ elim j [ inl z ↦ rw (z, g.1, g.2) (part_grows p w w' st act.exec act.view act.told (act.range, subst (RFact act.told.replica (w.replica act.told.replica)) act.got.4 ((facts_reach p w q).said act.got.0 act.told.replica act.got.1 act.got.3))) | inr z ↦ absurd z ] ];
+      tellers = distinct_map_more (λ (y : ToldAnswer). y.replica) act.round.tolds act.told old.tellers act.fresh;
       accept = λ j i. absurd i;
       accepters = tt;
-      fixed = λ y m. (choice_of h y m).0;
-      proposed = λ y m. (choice_of h y m).1;
+      fixed = λ y m. (choice_of act.outcome y m).0;
+      proposed = λ y m. (choice_of act.outcome y m).1;
     }
-act_ward p w w' q st k s sent new (Accepts x v j a y f n got range l e u h) t = record {
-  round = λ b i. elim (put_in x v (with_accept a y j) (w.warden k).rounds b (rw e at i)) [ inl z ↦ rw z fresh | inr m ↦ t.round b m ];
-  decision = λ d i. decisions h d i;
-  trunc = λ c i. t.trunc c (rw u at i);
+act_ward p w w' q st k s sent new (Counts_accepted act) t = record {
+  round = λ b i. elim (put_in act.exec act.view (with_accept act.round act.proposal act.replica) (w.warden k).rounds b (rw act.rounds at i)) [ inl z ↦ rw z fresh | inr m ↦ t.round b m ];
+  decision = λ d i. decisions act.outcome d i;
+  trunc = λ c i. t.trunc c (rw act.truncations at i);
 }
   where
-    fresh : RoundEvidence p.replicas w' (with_accept a y j)
-    fresh = let g = round_found x v (w.warden k).rounds a f in let old = t.round a g.0 in record {
+    fresh : RoundEvidence p.replicas w' (with_accept act.round act.proposal act.replica)
+    fresh = let g = round_found act.exec act.view (w.warden k).rounds act.round act.found in let old = t.round act.round g.0 in record {
       told = old.told;
       tellers = old.tellers;
-      accept = λ z i. elim (IsIn-cases z a.accepts (j ∷ []) i) [ inl m ↦ old.accept z m | inr m ↦ elim m [ inl c ↦ rw (c, g.1, g.2) (range, accepted_fact_grows p w w' st x v j (subst (RFact j (w.replica j)) got.4 ((facts_reach p w q).said got.0 j got.1 got.3))) | inr c ↦ absurd c ] ];
-      accepters = distinct_more a.accepts j old.accepters (absent_id j a.accepts l);
-      fixed = λ c m. old.fixed c (n ∙ m);
-      proposed = λ c m. old.proposed c (n ∙ m);
+      accept = λ z i. elim (IsIn-cases z act.round.accepts (act.replica ∷ []) i) [ inl m ↦ old.accept z m | inr m ↦ elim m [ inl c ↦ rw (c, g.1, g.2) (act.range, accepted_fact_grows p w w' st act.exec act.view act.replica (subst (RFact act.replica (w.replica act.replica)) act.got.4 ((facts_reach p w q).said act.got.0 act.replica act.got.1 act.got.3))) | inr c ↦ absurd c ] ];
+      accepters = distinct_more act.round.accepts act.replica old.accepters (absent_id act.replica act.round.accepts act.fresh);
+      fixed = λ c m. old.fixed c (act.proposed ∙ m);
+      proposed = λ c m. old.proposed c (act.proposed ∙ m);
     }
 
-    decisions : ((s.decisions ≡ (w.warden k).decisions) × (sent ≡ [])) ⊎ ((s.decisions ≡ record { exec = x; proposal = y } ∷ (w.warden k).decisions) × (quorum p.replicas ≤ suc (length a.accepts)) × (sent ≡ To_all (Decide x y.choice y.content) ∷ to_client (warden_rules p k) x (Decide x y.choice y.content))) → (d : DecidedProposal) → IsIn d s.decisions → WasSent w' (Decide d.exec d.proposal.choice d.proposal.content)
+    decisions : ((s.decisions ≡ (w.warden k).decisions) × (sent ≡ [])) ⊎ ((s.decisions ≡ record { exec = act.exec; proposal = act.proposal } ∷ (w.warden k).decisions) × (quorum p.replicas ≤ suc (length act.round.accepts)) × (sent ≡ To_all (Decide act.exec act.proposal.choice act.proposal.content) ∷ to_client (warden_rules p k) act.exec (Decide act.exec act.proposal.choice act.proposal.content))) → (d : DecidedProposal) → IsIn d s.decisions → WasSent w' (Decide d.exec d.proposal.choice d.proposal.content)
     decisions (inl z) d i = t.decision d (rw z.0 at i)
-    decisions (inr z) d i = elim (rw z.0 at i) [ inl c ↦ rw c (new (Decide x y.choice y.content) (rw z.2 (inl refl))) | inr m ↦ t.decision d m ]
-act_ward p w w' q st k s sent new (Begins_cut v g e u) t = rw e (record { round = t.round; decision = t.decision; trunc = λ c i. elim i [ inl z ↦ rw z (record { answer = λ a j. absurd j; answerers = tt }) | inr j ↦ t.trunc c j ] })
-act_ward p w w' q st k s sent new (Counts_fenced c ts a g got range l e u) t = rw e (record { round = t.round; decision = t.decision; trunc = λ d i. elim i [ inl z ↦ rw z fresh | inr j ↦ t.trunc d (rw g (inr j)) ] })
+    decisions (inr z) d i = elim (rw z.0 at i) [ inl c ↦ rw c (new (Decide act.exec act.proposal.choice act.proposal.content) (rw z.2 (inl refl))) | inr m ↦ t.decision d m ]
+act_ward p w w' q st k s sent new (Begins_truncation act) t = rw act.state (record { round = t.round; decision = t.decision; trunc = λ c i. elim i [ inl z ↦ rw z (record { answer = λ a j. absurd j; answerers = tt }) | inr j ↦ t.trunc c j ] })
+act_ward p w w' q st k s sent new (Counts_fenced act) t = rw act.state (record { round = t.round; decision = t.decision; trunc = λ d i. elim i [ inl z ↦ rw z fresh | inr j ↦ t.trunc d (rw act.truncations (inr j)) ] })
   where
-    old : TruncEvidence p.replicas w' c
-    old = t.trunc c (rw g (inl refl))
+    old : TruncEvidence p.replicas w' act.truncation
+    old = t.trunc act.truncation (rw act.truncations (inl refl))
 
-    here : FencedPartFact p.replicas w' c.w a
-    here = fenced_grows p w w' st c.w a (range, subst (RFact a.replica (w.replica a.replica)) got.4 ((facts_reach p w q).said got.0 a.replica got.1 got.3))
+    here : FencedPartFact p.replicas w' act.truncation.w act.answer
+    here = fenced_grows p w w' st act.truncation.w act.answer (act.range, subst (RFact act.answer.replica (w.replica act.answer.replica)) act.got.4 ((facts_reach p w q).said act.got.0 act.answer.replica act.got.1 act.got.3))
 
-    fresh : TruncEvidence p.replicas w' (record { w = c.w; answers = c.answers ++ a ∷ []; dropped = false })
+    fresh : TruncEvidence p.replicas w' (record { w = act.truncation.w; answers = act.truncation.answers ++ act.answer ∷ []; dropped = false })
     fresh = record {
-      answer = λ b i. elim (IsIn-cases b c.answers (a ∷ []) i) [ inl j ↦ old.answer b j | inr j ↦ elim j [ inl z ↦ rw z here | inr z ↦ absurd z ] ];
-      answerers = distinct_map_more (λ (y : FencedAnswer). y.replica) c.answers a old.answerers l;
+      answer = λ b i. elim (IsIn-cases b act.truncation.answers (act.answer ∷ []) i) [ inl j ↦ old.answer b j | inr j ↦ elim j [ inl z ↦ rw z here | inr z ↦ absurd z ] ];
+      answerers = distinct_map_more (λ (y : FencedAnswer). y.replica) act.truncation.answers act.answer old.answerers act.fresh;
     }
-act_ward p w w' q st k s sent new (Ends_cut c ts g l n e u) t = rw e (record { round = t.round; decision = t.decision; trunc = λ d i. elim i [ inl z ↦ rw z fresh | inr j ↦ t.trunc d (rw g (inr j)) ] })
+act_ward p w w' q st k s sent new (Ends_truncation act) t = rw act.state (record { round = t.round; decision = t.decision; trunc = λ d i. elim i [ inl z ↦ rw z fresh | inr j ↦ t.trunc d (rw act.truncations (inr j)) ] })
   where
-    old : TruncEvidence p.replicas w' c
-    old = t.trunc c (rw g (inl refl))
+    old : TruncEvidence p.replicas w' act.truncation
+    old = t.trunc act.truncation (rw act.truncations (inl refl))
 
-    fresh : TruncEvidence p.replicas w' (drop_sent c)
+    fresh : TruncEvidence p.replicas w' (drop_sent act.truncation)
     fresh = record { answer = old.answer; answerers = old.answerers }
 
 pub ward_reach : (p : Plan) → 0 < p.replicas → (w : World) → Reach p w → (k : ℕ) → WardEvident p.replicas w (w.warden k)

@@ -52,22 +52,121 @@ pub data Reason (n : ℕ) (votes : List CountedVote) (proposal : Option Choice) 
   One_final : proposal ≡ None → d ≡ Abandon → 0 < count_votes is_final_vote votes → Reason n votes proposal accepts d
   By_quorum : proposal ≡ Some d → quorum n ≤ length accepts → Reason n votes proposal accepts d
 
+-- only reads and writes are sent, if anything, and the execution stands where it stood
+pub record QuietAct (c c' : ClientState) (sent : List Body) : Type 0 where
+  pub exec : c'.exec ≡ c.exec
+  pub decisions : c'.decisions ≡ c.decisions
+  pub stage : SameStage c.phase c'.phase
+  pub quiet : AllQuiet sent
+
+-- a later execution begins
+pub record AdvanceAct (r : Rules) (c c' : ClientState) (sent : List Body) : Type 0 where
+  pub from : IsUnprepared c.phase
+  pub running : IsRunning c'.phase
+  pub later : IsEarlier c.exec c'.exec
+  pub own : (c'.exec.ver.client ≡ r.client) ⊎ ((c'.exec.ver ≡ c.exec.ver) × WasBegun c)
+  pub decisions : c'.decisions ≡ c.decisions
+  pub silent : sent ≡ []
+
+-- what ran is prepared
+pub record PrepareAct (c c' : ClientState) (sent : List Body) : Type 0 where
+  pub content : Content
+  pub running : IsRunning c.phase
+  pub exec : c'.exec ≡ c.exec
+  pub decisions : c'.decisions ≡ c.decisions
+  pub phase : c'.phase ≡ Prepared content [] None []
+  pub sends : sent ≡ Prepare c.exec content ∷ []
+
+-- a replica's vote is counted
+pub record CountAct (r : Rules) (Got : NodeId → Body → Type 0) (c c' : ClientState) (sent : List Body) : Type 0 where
+  pub content : Content
+  pub votes : List CountedVote
+  pub accepts : List ℕ
+  pub replica : ℕ
+  pub vote : Vote
+  pub before : c.phase ≡ Prepared content votes None accepts
+  pub got : Got (Replica replica) (Voted c.exec vote)
+  pub range : (0 < replica) × (replica ≤ r.replicas)
+  pub fresh : list_any (λ b. b.replica == replica) votes ≡ false
+  pub exec : c'.exec ≡ c.exec
+  pub decisions : c'.decisions ≡ c.decisions
+  pub phase : c'.phase ≡ Prepared content (votes ++ record { replica = replica; vote = vote } ∷ []) None []
+  pub silent : sent ≡ []
+
+-- a choice is proposed in view 0
+pub record ProposeAct (r : Rules) (c c' : ClientState) (sent : List Body) : Type 0 where
+  pub content : Content
+  pub votes : List CountedVote
+  pub accepts : List ℕ
+  pub choice : Choice
+  pub before : c.phase ≡ Prepared content votes None accepts
+  pub ground : choice ≡ ToCommit → quorum r.replicas ≤ count_votes is_commit_vote votes
+  pub exec : c'.exec ≡ c.exec
+  pub decisions : c'.decisions ≡ c.decisions
+  pub phase : c'.phase ≡ Prepared content votes (Some choice) []
+  pub sends : sent ≡ Finalize c.exec 0 choice (content_for content choice) ∷ []
+
+-- a replica's acceptance of the proposal is counted
+pub record AcceptAct (r : Rules) (Got : NodeId → Body → Type 0) (c c' : ClientState) (sent : List Body) : Type 0 where
+  pub content : Content
+  pub votes : List CountedVote
+  pub choice : Choice
+  pub accepts : List ℕ
+  pub replica : ℕ
+  pub before : c.phase ≡ Prepared content votes (Some choice) accepts
+  pub got : Got (Replica replica) (Accepted c.exec 0)
+  pub range : (0 < replica) × (replica ≤ r.replicas)
+  pub fresh : list_any (λ i. i == replica) accepts ≡ false
+  pub exec : c'.exec ≡ c.exec
+  pub decisions : c'.decisions ≡ c.decisions
+  pub phase : c'.phase ≡ Prepared content votes (Some choice) (accepts ++ replica ∷ [])
+  pub silent : sent ≡ []
+
+-- the votes or the acceptances decide
+pub record DecideAct (r : Rules) (c c' : ClientState) (sent : List Body) : Type 0 where
+  pub content : Content
+  pub votes : List CountedVote
+  pub proposal : Option Choice
+  pub accepts : List ℕ
+  pub choice : Choice
+  pub before : c.phase ≡ Prepared content votes proposal accepts
+  pub reason : Reason r.replicas votes proposal accepts choice
+  pub exec : c'.exec ≡ c.exec
+  pub decisions : c'.decisions ≡ record { exec = c.exec; choice = choice } ∷ c.decisions
+  pub phase : c'.phase ≡ Between
+  pub sends : sent ≡ Decide c.exec choice (content_for content choice) ∷ []
+
+-- what runs is given up before it is prepared
+pub record GiveUpAct (c c' : ClientState) (sent : List Body) : Type 0 where
+  pub running : IsRunning c.phase
+  pub exec : c'.exec ≡ c.exec
+  pub decisions : c'.decisions ≡ record { exec = c.exec; choice = Abandon } ∷ c.decisions
+  pub phase : c'.phase ≡ Between
+  pub sends : sent ≡ Decide c.exec Abandon None ∷ []
+
+-- a warden's decision is learnt
+pub record LearnAct (Got : NodeId → Body → Type 0) (c c' : ClientState) (sent : List Body) : Type 0 where
+  pub warden : ℕ
+  pub choice : Choice
+  pub content : Option Content
+  pub under_way : IsUnderWay c.phase
+  pub got : Got (Warden warden) (Decide c.exec choice content)
+  pub exec : c'.exec ≡ c.exec
+  pub decisions : c'.decisions ≡ record { exec = c.exec; choice = choice } ∷ c.decisions
+  pub phase : c'.phase ≡ Between
+  pub silent : sent ≡ []
+
 -- the small acts of which a client's step is made; Got says which envelopes came to it
-pub data Act (r : Rules) (Got : NodeId → Body → Type 0) (c c' : ClientState) (sent : List Body) : Type 0 where
-  Quiet : c'.exec ≡ c.exec → c'.decisions ≡ c.decisions → SameStage c.phase c'.phase → AllQuiet sent → Act r Got c c' sent
-  Advances : IsUnprepared c.phase → IsRunning c'.phase → IsEarlier c.exec c'.exec → (c'.exec.ver.client ≡ r.client) ⊎ ((c'.exec.ver ≡ c.exec.ver) × WasBegun c) → c'.decisions ≡ c.decisions → sent ≡ [] → Act r Got c c' sent
-  Prepares : (k : Content) → IsRunning c.phase → c'.exec ≡ c.exec → c'.decisions ≡ c.decisions → c'.phase ≡ Prepared k [] None [] → sent ≡ Prepare c.exec k ∷ [] → Act r Got c c' sent
-  Counts : (k : Content) (votes : List CountedVote) (accepts : List ℕ) (j : ℕ) (v : Vote) → c.phase ≡ Prepared k votes None accepts → Got (Replica j) (Voted c.exec v) → (0 < j) × (j ≤ r.replicas) → list_any (λ b. b.replica == j) votes ≡ false
-      → c'.exec ≡ c.exec → c'.decisions ≡ c.decisions → c'.phase ≡ Prepared k (votes ++ record { replica = j; vote = v } ∷ []) None [] → sent ≡ [] → Act r Got c c' sent
-  Proposes : (k : Content) (votes : List CountedVote) (accepts : List ℕ) (d : Choice) → c.phase ≡ Prepared k votes None accepts → (d ≡ ToCommit → quorum r.replicas ≤ count_votes is_commit_vote votes)
-      → c'.exec ≡ c.exec → c'.decisions ≡ c.decisions → c'.phase ≡ Prepared k votes (Some d) [] → sent ≡ Finalize c.exec 0 d (content_for k d) ∷ [] → Act r Got c c' sent
-  Accepts : (k : Content) (votes : List CountedVote) (d : Choice) (accepts : List ℕ) (j : ℕ) → c.phase ≡ Prepared k votes (Some d) accepts → Got (Replica j) (Accepted c.exec 0) → (0 < j) × (j ≤ r.replicas) → list_any (λ i. i == j) accepts ≡ false
-      → c'.exec ≡ c.exec → c'.decisions ≡ c.decisions → c'.phase ≡ Prepared k votes (Some d) (accepts ++ j ∷ []) → sent ≡ [] → Act r Got c c' sent
-  Decides : (k : Content) (votes : List CountedVote) (o : Option Choice) (accepts : List ℕ) (d : Choice) → c.phase ≡ Prepared k votes o accepts → Reason r.replicas votes o accepts d
-      → c'.exec ≡ c.exec → c'.decisions ≡ record { exec = c.exec; choice = d } ∷ c.decisions → c'.phase ≡ Between → sent ≡ Decide c.exec d (content_for k d) ∷ [] → Act r Got c c' sent
-  Gives_up : IsRunning c.phase → c'.exec ≡ c.exec → c'.decisions ≡ record { exec = c.exec; choice = Abandon } ∷ c.decisions → c'.phase ≡ Between → sent ≡ Decide c.exec Abandon None ∷ [] → Act r Got c c' sent
-  Learns : (j : ℕ) (d : Choice) (k : Option Content) → IsUnderWay c.phase → Got (Warden j) (Decide c.exec d k)
-      → c'.exec ≡ c.exec → c'.decisions ≡ record { exec = c.exec; choice = d } ∷ c.decisions → c'.phase ≡ Between → sent ≡ [] → Act r Got c c' sent
+pub data ClientAct (r : Rules) (Got : NodeId → Body → Type 0) (c c' : ClientState) (sent : List Body) : Type 0 where
+  Quiet : QuietAct c c' sent → ClientAct r Got c c' sent
+  Advances : AdvanceAct r c c' sent → ClientAct r Got c c' sent
+  Prepares : PrepareAct c c' sent → ClientAct r Got c c' sent
+  Counts : CountAct r Got c c' sent → ClientAct r Got c c' sent
+  Proposes : ProposeAct r c c' sent → ClientAct r Got c c' sent
+  Accepts : AcceptAct r Got c c' sent → ClientAct r Got c c' sent
+  Decides : DecideAct r c c' sent → ClientAct r Got c c' sent
+  Gives_up : GiveUpAct c c' sent → ClientAct r Got c c' sent
+  Learns : LearnAct Got c c' sent → ClientAct r Got c c' sent
 
 abbrev pub IsAborted : Fate → Type 0
 IsAborted Aborted = Unit {0}
@@ -109,7 +208,7 @@ pub record WriteStep (r : Rules) (c c' : ClientState) (sent : List Body) : Type 
 -- acts one after another
 pub data Chain (r : Rules) (Got : NodeId → Body → Type 0) (c : ClientState) : ClientState → List Body → Type 0 where
   Start : Chain r Got c c []
-  Then : (c1 c2 : ClientState) (s1 s2 : List Body) → Chain r Got c c1 s1 → Act r Got c1 c2 s2 → TryStep c1 c2 → WriteStep r c1 c2 s2 → Chain r Got c c2 (s1 ++ s2)
+  Then : (c1 c2 : ClientState) (s1 s2 : List Body) → Chain r Got c c1 s1 → ClientAct r Got c1 c2 s2 → TryStep c1 c2 → WriteStep r c1 c2 s2 → Chain r Got c c2 (s1 ++ s2)
 
 -- what the counted votes call for has its ground in them
 abbrev pub Tells : ℕ → List CountedVote → TallyOut → Type 0

@@ -28,21 +28,21 @@ use Rattle.protocol.proofs.NamesLemmas.{exec_is}
 use Rattle.std.proofs.lemmas.Bool.Decides.{Decides-int_eq}
 use Rattle.law_steps.proofs.WriteStepLemmas.{stops, stops_silent, begins, goes_on, values_append, relabels, puts_writes, puts_alone, other_question, prepares_writes}
 use Rattle.law_steps.proofs.PhaseLemmas.{same_stage, running_stage, unprepared, quiet_puts, not_true, warden_is, quiet_question, quiet_append, between_is, aborted_is, running_under_way, prepared_under_way}
-use Rattle.law_steps.proofs.ClientActs.Act.{Quiet, Advances, Prepares, Counts, Proposes, Accepts, Decides, Gives_up, Learns}
+use Rattle.law_steps.proofs.ClientActs.ClientAct.{Quiet, Advances, Prepares, Counts, Proposes, Accepts, Decides, Gives_up, Learns}
 use Rattle.law_steps.proofs.ClientActs.Reason.{All_commit, One_final, By_quorum}
 use Rattle.law_steps.proofs.ClientActs.TryStep.{Keeps, Next_exec, Next_try}
 use Rattle.law_steps.proofs.ClientActs.Chain.{Start, Then}
-use Rattle.law_steps.proofs.ClientActs.{IsRunning, IsUnderWay, Reason, Act, IsAborted, TryStep, WriteStep, Chain, Tells, tally_tells}
+use Rattle.law_steps.proofs.ClientActs.{IsRunning, IsUnderWay, Reason, ClientAct, IsAborted, TryStep, WriteStep, Chain, Tells, tally_tells}
 
 module _ (r : Rules) (Got : NodeId → Body → Type 0) where
   abbrev Reaches : ClientState → Turn → Type 0
   Reaches c t = Chain r Got c t.state t.sent
 
   -- one act that sends nothing, or all
-  one : (c c' : ClientState) (sent : List Body) → Act r Got c c' sent → TryStep c c' → WriteStep r c c' sent → Chain r Got c c' sent
+  one : (c c' : ClientState) (sent : List Body) → ClientAct r Got c c' sent → TryStep c c' → WriteStep r c c' sent → Chain r Got c c' sent
   one c c' sent a t u = Then c c' [] sent Start a t u
 
-  silent : (c c1 c2 : ClientState) (sent : List Body) → Chain r Got c c1 sent → Act r Got c1 c2 [] → TryStep c1 c2 → WriteStep r c1 c2 [] → Chain r Got c c2 sent
+  silent : (c c1 c2 : ClientState) (sent : List Body) → Chain r Got c c1 sent → ClientAct r Got c1 c2 [] → TryStep c1 c2 → WriteStep r c1 c2 [] → Chain r Got c c2 sent
   silent c c1 c2 sent s a t u = subst (λ bs. Chain r Got c c2 bs) (append-nil sent) (Then c1 c2 sent [] s a t u)
 
   quiet_id : (c : ClientState) → Chain r Got c c []
@@ -53,7 +53,7 @@ module _ (r : Rules) (Got : NodeId → Body → Type 0) where
   settle_chain c0 c sent run s = go (walk r c).ending refl (list_all (λ a. a.label.sure) c.answers)
     where
       go : (e : Option Ending) → (walk r c).ending ≡ e → (t : Bool) → Chain r Got c0 (prepare_when r c sent e t).state (prepare_when r c sent e t).sent
-      go (Some e) q true = Then c _ sent (Prepare c.exec (content r c e) ∷ []) s (Prepares (content r c e) run refl refl refl refl) (Keeps refl refl refl (λ e i. i) (λ b f. cc) (λ u. inl (running_under_way c.phase run))) (prepares_writes r c _ e q run (λ z. z))
+      go (Some e) q true = Then c _ sent (Prepare c.exec (content r c e) ∷ []) s (Prepares (record { content = content r c e; running = run; exec = refl; decisions = refl; phase = refl; sends = refl })) (Keeps refl refl refl (λ e i. i) (λ b f. cc) (λ u. inl (running_under_way c.phase run))) (prepares_writes r c _ e q run (λ z. z))
       go (Some e) q false = s
       go None q t = s
 
@@ -65,28 +65,28 @@ module _ (r : Rules) (Got : NodeId → Body → Type 0) where
       puts = one_when (may_put (walk r (relabelled c)).ending) (Puts (next_exec c.exec) (walk r (relabelled c)).writes)
 
       go : (t : Bool) → Chain r Got c0 (cond t (record { state = rewound c (cut c.answers); sent = sent }) (prepare_if_ready r (relabelled c) (sent ++ one_when (may_put (walk r (relabelled c)).ending) (Puts (next_exec c.exec) (walk r (relabelled c)).writes)))).state (cond t (record { state = rewound c (cut c.answers); sent = sent }) (prepare_if_ready r (relabelled c) (sent ++ one_when (may_put (walk r (relabelled c)).ending) (Puts (next_exec c.exec) (walk r (relabelled c)).writes)))).sent
-      go true = silent c0 (ended c Live) _ sent s (Advances tt tt (inr (refl, omega arith)) (inr (refl, inr b)) refl refl) (Next_exec refl refl refl (λ e i. i) (inr (tt, g)) tt) (begins r _ _ (inr (refl, omega arith)))
+      go true = silent c0 (ended c Live) _ sent s (Advances (record { from = tt; running = tt; later = (inr (refl, omega arith)); own = (inr (refl, inr b)); decisions = refl; silent = refl })) (Next_exec refl refl refl (λ e i. i) (inr (tt, g)) tt) (begins r _ _ (inr (refl, omega arith)))
       go false = settle_chain c0 (relabelled c) _ tt
-          (Then (relabelled c) (relabelled c) sent _ (silent c0 (ended c Live) (relabelled c) sent s (Advances tt tt (inr (refl, omega arith)) (inr (refl, inr b)) refl refl) (Next_exec refl refl refl (λ e i. i) (inr (tt, g)) tt) (begins r _ _ (inr (refl, omega arith))))
-          (Quiet refl refl tt (quiet_puts (may_put (walk r (relabelled c)).ending) _ tt)) (Keeps refl refl refl (λ e i. i) (λ b f. cc) (λ u. u))
+          (Then (relabelled c) (relabelled c) sent _ (silent c0 (ended c Live) (relabelled c) sent s (Advances (record { from = tt; running = tt; later = (inr (refl, omega arith)); own = (inr (refl, inr b)); decisions = refl; silent = refl })) (Next_exec refl refl refl (λ e i. i) (inr (tt, g)) tt) (begins r _ _ (inr (refl, omega arith))))
+          (Quiet (record { exec = refl; decisions = refl; stage = tt; quiet = quiet_puts (may_put (walk r (relabelled c)).ending) _ tt })) (Keeps refl refl refl (λ e i. i) (λ b f. cc) (λ u. u))
           (puts_alone r (relabelled c) (may_put (walk r (relabelled c)).ending) tt))
 
   conclude_chain : (c0 c : ClientState) (d : Choice) (sent : List Body) → Chain r Got c0 (ended (noted c d) Live) sent → Chain r Got c0 (conclude r c d sent).state (conclude r c d sent).sent
   unfolding conclude
-  conclude_chain c0 c ToCommit sent s = silent c0 _ _ sent s (Quiet refl refl refl tt) (Keeps refl refl refl (λ e i. i) (λ b f. absurd f) (λ u. elim u [ inl z ↦ absurd z | inr z ↦ absurd z ])) (stops_silent r _ _ (λ z. z))
+  conclude_chain c0 c ToCommit sent s = silent c0 _ _ sent s (Quiet (record { exec = refl; decisions = refl; stage = refl; quiet = tt })) (Keeps refl refl refl (λ e i. i) (λ b f. absurd f) (λ u. elim u [ inl z ↦ absurd z | inr z ↦ absurd z ])) (stops_silent r _ _ (λ z. z))
   conclude_chain c0 c Abandon sent s = go (list_any is_change c.answers && nat_lt (c.exec.eid + 1) r.execs)
     where
       go : (t : Bool) → Reaches c0 (cond t (next_execution r (noted c Abandon) sent) (record { state = ended (noted c Abandon) Aborted; sent = sent }))
       go true = next_chain c0 (noted c Abandon) sent (record { exec = c.exec; choice = Abandon }, inl refl, refl) (inl refl) s
-      go false = silent c0 _ _ sent s (Quiet refl refl refl tt) (Keeps refl refl refl (λ e i. i) (λ b f. inr (inl refl)) (λ u. elim u [ inl z ↦ absurd z | inr z ↦ absurd z ])) (stops_silent r _ _ (λ z. z))
+      go false = silent c0 _ _ sent s (Quiet (record { exec = refl; decisions = refl; stage = refl; quiet = tt })) (Keeps refl refl refl (λ e i. i) (λ b f. inr (inl refl)) (λ u. elim u [ inl z ↦ absurd z | inr z ↦ absurd z ])) (stops_silent r _ _ (λ z. z))
 
   decide_chain : (c0 c : ClientState) (k : Content) (votes : List CountedVote) (o : Option Choice) (accepts : List ℕ) (d : Choice) → c.phase ≡ Prepared k votes o accepts → Reason r.replicas votes o accepts d → Chain r Got c0 c [] → Chain r Got c0 (decide r c k d).state (decide r c k d).sent
   unfolding decide
-  decide_chain c0 c k votes o accepts d e why s = conclude_chain c0 c d _ (Then c _ [] _ s (Decides k votes o accepts d e why refl refl refl refl) (Keeps refl refl refl (λ e i. inr i) (λ b f. absurd f) (λ u. inl (rw e tt))) (stops r _ _ _ tt (λ z. z)))
+  decide_chain c0 c k votes o accepts d e why s = conclude_chain c0 c d _ (Then c _ [] _ s (Decides (record { content = k; votes = votes; proposal = o; accepts = accepts; choice = d; before = e; reason = why; exec = refl; decisions = refl; phase = refl; sends = refl })) (Keeps refl refl refl (λ e i. inr i) (λ b f. absurd f) (λ u. inl (rw e tt))) (stops r _ _ _ tt (λ z. z)))
 
   give_up_chain : (c : ClientState) → IsRunning c.phase → Chain r Got c (give_up c).state (give_up c).sent
   unfolding give_up
-  give_up_chain c run = one c _ _ (Gives_up run refl refl refl refl) (Keeps refl refl refl (λ e i. inr i) (λ b f. inr (inl refl)) (λ u. elim u [ inl z ↦ absurd z | inr z ↦ absurd z ])) (stops r _ _ _ tt (λ z. z))
+  give_up_chain c run = one c _ _ (Gives_up (record { running = run; exec = refl; decisions = refl; phase = refl; sends = refl })) (Keeps refl refl refl (λ e i. inr i) (λ b f. inr (inl refl)) (λ u. elim u [ inl z ↦ absurd z | inr z ↦ absurd z ])) (stops r _ _ _ tt (λ z. z))
 
   settle_if_idle_chain : (c0 c : ClientState) → IsRunning c.phase → Chain r Got c0 c [] → Chain r Got c0 (prepare_if_idle r c).state (prepare_if_idle r c).sent
   unfolding prepare_if_idle
@@ -97,14 +97,14 @@ module _ (r : Rules) (Got : NodeId → Body → Type 0) where
       go false = settle_chain c0 c [] run s
 
   with_answer_chain : (c : ClientState) (i : ℕ) (a : Answer) → (answer_at c i).label.value ≡ a.label.value → Chain r Got c (with_answer c i a) []
-  with_answer_chain c i a e = one c _ [] (Quiet refl refl (same_stage c.phase) tt) (Keeps refl refl refl (λ e i. i) (λ b f. inl (b, f)) (λ u. u)) (relabels r c i a e)
+  with_answer_chain c i a e = one c _ [] (Quiet (record { exec = refl; decisions = refl; stage = same_stage c.phase; quiet = tt })) (Keeps refl refl refl (λ e i. i) (λ b f. inl (b, f)) (λ u. u)) (relabels r c i a e)
 
   rewind_chain : (c : ClientState) (i : ℕ) (new : Held) → IsRunning c.phase → Chain r Got c (rewind r c i new).state (rewind r c i new).sent
   unfolding rewind rewound
   rewind_chain c i new run = go (nat_lt (c.exec.eid + 1) r.execs)
     where
       go : (t : Bool) → Reaches c (cond t (idle (rewound c (take i c.answers ++ record { label = new; next = None } ∷ []))) (give_up c))
-      go true = one c _ [] (Advances (unprepared c.phase run) tt (inr (refl, omega arith)) (inr (refl, inl (running_under_way c.phase run))) refl refl) (Next_exec refl refl refl (λ e i. i) (inl run) tt) (begins r _ _ (inr (refl, omega arith)))
+      go true = one c _ [] (Advances (record { from = unprepared c.phase run; running = tt; later = (inr (refl, omega arith)); own = (inr (refl, inl (running_under_way c.phase run))); decisions = refl; silent = refl })) (Next_exec refl refl refl (λ e i. i) (inl run) tt) (begins r _ _ (inr (refl, omega arith)))
       go false = give_up_chain c run
 
   follow_running_chain : (c : ClientState) (i : ℕ) (new : Held) (f : Effect) → IsRunning c.phase → Chain r Got c (follow_running r c i (answer_at c i) new f).state (follow_running r c i (answer_at c i) new f).sent
@@ -124,7 +124,7 @@ module _ (r : Rules) (Got : NodeId → Body → Type 0) where
 
   note_on_chain : (c : ClientState) (k : Key) (new : Held) (lost : Option Wid) (asked : Bool) → IsRunning c.phase → Reaches c (note_on r c k new lost asked)
   unfolding note_on
-  note_on_chain c k new lost true run = one c _ [] (Quiet refl refl (running_stage c.phase _ run tt) tt) (Keeps refl refl refl (λ e i. i) (λ b f. cc) (λ u. inl (running_under_way c.phase run)))
+  note_on_chain c k new lost true run = one c _ [] (Quiet (record { exec = refl; decisions = refl; stage = running_stage c.phase _ run tt; quiet = tt })) (Keeps refl refl refl (λ e i. i) (λ b f. cc) (λ u. inl (running_under_way c.phase run)))
       (goes_on r c _ (λ z. record { exec = refl; running = run; begun = refl; more = new.value ∷ []; answers = values_append c.answers (record { label = new; next = None }) }))
   note_on_chain c k new lost false run = note_at_chain c new lost (place_of k 0 (walk r c).keys) run
 
@@ -138,12 +138,12 @@ module _ (r : Rules) (Got : NodeId → Body → Type 0) where
 
   propose_chain : (c0 c : ClientState) (k : Content) (votes : List CountedVote) (d : Choice) (accepts : List ℕ) → c.phase ≡ Prepared k votes None accepts → (d ≡ ToCommit → quorum r.replicas ≤ count_votes is_commit_vote votes) → Chain r Got c0 c [] → Reaches c0 (propose c k votes d)
   unfolding propose
-  propose_chain c0 c k votes d accepts e f s = Then c _ [] _ s (Proposes k votes accepts d e f refl refl refl refl) (Keeps refl refl refl (λ e i. i) (λ b f. cc) (λ u. inl (rw e tt))) (stops r _ _ _ tt (λ z. z))
+  propose_chain c0 c k votes d accepts e f s = Then c _ [] _ s (Proposes (record { content = k; votes = votes; accepts = accepts; choice = d; before = e; ground = f; exec = refl; decisions = refl; phase = refl; sends = refl })) (Keeps refl refl refl (λ e i. i) (λ b f. cc) (λ u. inl (rw e tt))) (stops r _ _ _ tt (λ z. z))
 
   -- what is proposed from the state in which the votes were counted is what is proposed from the one before
   propose_again : (c0 c : ClientState) (k : Content) (votes : List CountedVote) (d : Choice) → (d ≡ ToCommit → quorum r.replicas ≤ count_votes is_commit_vote votes) → Chain r Got c0 (prepared c k votes None []) [] → Reaches c0 (propose c k votes d)
   unfolding propose
-  propose_again c0 c k votes d f s = Then (prepared c k votes None []) _ [] _ s (Proposes k votes [] d refl f refl refl refl refl) (Keeps refl refl refl (λ e i. i) (λ b f. cc) (λ u. inl tt)) (stops r _ _ _ tt (λ z. z))
+  propose_again c0 c k votes d f s = Then (prepared c k votes None []) _ [] _ s (Proposes (record { content = k; votes = votes; accepts = []; choice = d; before = refl; ground = f; exec = refl; decisions = refl; phase = refl; sends = refl })) (Keeps refl refl refl (λ e i. i) (λ b f. cc) (λ u. inl tt)) (stops r _ _ _ tt (λ z. z))
 
   tally_chain : (c0 c : ClientState) (k : Content) (votes : List CountedVote) (o : TallyOut) → Tells r.replicas votes o → Chain r Got c0 (prepared c k votes None []) [] → Reaches c0 (on_tally r c k votes o)
   unfolding on_tally
@@ -159,7 +159,7 @@ module _ (r : Rules) (Got : NodeId → Body → Type 0) where
   counts_vote_chain c k votes accepts x j v e got range = go (same_exec x c.exec && not (list_any (λ b. b.replica == j) votes)) refl
     where
       go : (t : Bool) → (same_exec x c.exec && not (list_any (λ b. b.replica == j) votes)) ≡ t → Reaches c (turn_when t c (on_tally r c k (votes ++ record { replica = j; vote = v } ∷ []) (tally_says r.replicas (votes ++ record { replica = j; vote = v } ∷ []))))
-      go true q = tally_chain c c k _ _ (tally_tells r.replicas _) (one c _ [] (Counts k votes accepts j v e (subst (λ y. Got (Replica j) (Voted y v)) (exec_is _ _ (and_left _ _ q)) got) range (not_true _ (and_right _ _ q)) refl refl refl refl) (Keeps refl refl refl (λ e i. i) (λ b f. cc) (λ u. inl (rw e tt))) (stops_silent r _ _ (λ z. z)))
+      go true q = tally_chain c c k _ _ (tally_tells r.replicas _) (one c _ [] (Counts (record { content = k; votes = votes; accepts = accepts; replica = j; vote = v; before = e; got = subst (λ y. Got (Replica j) (Voted y v)) (exec_is _ _ (and_left _ _ q)) got; range = range; fresh = not_true _ (and_right _ _ q); exec = refl; decisions = refl; phase = refl; silent = refl })) (Keeps refl refl refl (λ e i. i) (λ b f. cc) (λ u. inl (rw e tt))) (stops_silent r _ _ (λ z. z)))
       go false q = Start
 
   counts_accept_chain : (c : ClientState) (k : Content) (votes : List CountedVote) (d : Choice) (accepts : List ℕ) (x : Exec) (view j : ℕ) → c.phase ≡ Prepared k votes (Some d) accepts → Got (Replica j) (Accepted x view) → (0 < j) × (j ≤ r.replicas) → Reaches c (counts_accept r c k votes d accepts x view j)
@@ -171,15 +171,13 @@ module _ (r : Rules) (Got : NodeId → Body → Type 0) where
       go2 false q s = s
 
       go : (t : Bool) → (same_exec x c.exec && ((view == 0) && not (list_any (λ i. i == j) accepts))) ≡ t → Reaches c (turn_when t c (turn_when (nat_le (quorum r.replicas) (suc (length accepts))) (prepared c k votes (Some d) (accepts ++ j ∷ [])) (decide r (prepared c k votes (Some d) (accepts ++ j ∷ [])) k d)))
-      go true q = go2 (nat_le (quorum r.replicas) (suc (length accepts))) refl (one c _ [] (Accepts k votes d accepts j e
-          (subst (λ y. Got (Replica j) (Accepted c.exec y)) (eqb_is view 0 (and_left _ _ (and_right _ _ q))) (subst (λ y. Got (Replica j) (Accepted y view)) (exec_is _ _ (and_left _ _ q)) got))
-          range (not_true _ (and_right _ _ (and_right _ _ q))) refl refl refl refl) (Keeps refl refl refl (λ e i. i) (λ b f. cc) (λ u. inl (rw e tt))) (stops_silent r _ _ (λ z. z)))
+      go true q = go2 (nat_le (quorum r.replicas) (suc (length accepts))) refl (one c _ [] (Accepts (record { content = k; votes = votes; choice = d; accepts = accepts; replica = j; before = e; got = subst (λ y. Got (Replica j) (Accepted c.exec y)) (eqb_is view 0 (and_left _ _ (and_right _ _ q))) (subst (λ y. Got (Replica j) (Accepted y view)) (exec_is _ _ (and_left _ _ q)) got); range = range; fresh = not_true _ (and_right _ _ (and_right _ _ q)); exec = refl; decisions = refl; phase = refl; silent = refl })) (Keeps refl refl refl (λ e i. i) (λ b f. cc) (λ u. inl (rw e tt))) (stops_silent r _ _ (λ z. z)))
       go false q = Start
 
   -- envelopes
   learns : (c : ClientState) (f : Fate) → (d : Choice) → (IsAborted f → d ≡ Abandon) → (from : NodeId) (x : Exec) (k : Option Content) → IsUnderWay c.phase → Got from (Decide x d k) → (is_warden from && same_exec x c.exec) ≡ true → Chain r Got c (ended (noted c d) f) []
   learns c f d g from x k u got q = let w = warden_is from (and_left _ _ q) in
-      one c _ [] (Learns w.0 d k u (subst (λ y. Got (Warden w.0) (Decide y d k)) (exec_is _ _ (and_right _ _ q)) (subst (λ y. Got y (Decide x d k)) w.1 got)) refl refl refl refl) (Keeps refl refl refl (λ e i. inr i) (λ b a. inr (inl (ap (λ (z : Choice). record { exec = c.exec; choice = z }) (sym (g a))))) (λ v. inl u)) (stops_silent r _ _ (λ z. z))
+      one c _ [] (Learns (record { warden = w.0; choice = d; content = k; under_way = u; got = subst (λ y. Got (Warden w.0) (Decide y d k)) (exec_is _ _ (and_right _ _ q)) (subst (λ y. Got y (Decide x d k)) w.1 got); exec = refl; decisions = refl; phase = refl; silent = refl })) (Keeps refl refl refl (λ e i. inr i) (λ b a. inr (inl (ap (λ (z : Choice). record { exec = c.exec; choice = z }) (sym (g a))))) (λ v. inl u)) (stops_silent r _ _ (λ z. z))
 
   told_running_chain : (c : ClientState) (from : NodeId) (x : Exec) (d : Choice) (k : Option Content) → IsUnderWay c.phase → Got from (Decide x d k) → (is_warden from && same_exec x c.exec) ≡ true → Reaches c (told_running c d)
   told_running_chain c from x ToCommit k u got q = learns c Committed ToCommit (λ a. absurd a) from x k u got q
@@ -250,8 +248,7 @@ module _ (r : Rules) (Got : NodeId → Body → Type 0) where
 
   ran_chain : (c : ClientState) (given : Bool) → IsRunning c.phase → Reaches c (ran r c given)
   unfolding ran
-  ran_chain c given run = settle_chain c _ _ tt (one c _ _ (Quiet refl refl (running_stage c.phase (Running false true) run tt)
-      (quiet_append _ _ (quiet_puts (may_put (walk r c).ending && (wrote r c || (not given && nat_lt 0 c.exec.eid))) (Puts c.exec (walk r c).writes) tt) (quiet_question c.exec (walk r c).asks))) (Keeps refl refl refl (λ e i. i) (λ b f. cc) (λ u. inl (running_under_way c.phase run)))
+  ran_chain c given run = settle_chain c _ _ tt (one c _ _ (Quiet (record { exec = refl; decisions = refl; stage = running_stage c.phase (Running false true) run tt; quiet = quiet_append _ _ (quiet_puts (may_put (walk r c).ending && (wrote r c || (not given && nat_lt 0 c.exec.eid))) (Puts c.exec (walk r c).writes) tt) (quiet_question c.exec (walk r c).asks) })) (Keeps refl refl refl (λ e i. i) (λ b f. cc) (λ u. inl (running_under_way c.phase run)))
       (puts_writes r c (may_put (walk r c).ending && (wrote r c || (not given && nat_lt 0 c.exec.eid))) (question c.exec (walk r c).asks) run (other_question c.exec (walk r c).asks) _
       (record { exec = refl; running = run; begun = refl; more = []; answers = sym (append-nil (values c.answers)) }) tt refl))
 
@@ -274,7 +271,7 @@ module _ (r : Rules) (Got : NodeId → Body → Type 0) where
 
   begin_chain : (c : ClientState) (begun try : ℕ) → c.phase ≡ Between → ((begun ≡ c.begun) × IsAborted c.fate) ⊎ (begun ≡ c.begun + 1) → Chain r Got c (begin r c begun try) []
   unfolding begin
-  begin_chain c begun try e f = one c _ [] (Advances (rw e tt) tt (inl (omega arith)) (inl refl) refl refl) (Next_try e (omega arith) refl (λ e i. i) f tt) (begins r _ _ (inl (omega arith)))
+  begin_chain c begun try e f = one c _ [] (Advances (record { from = rw e tt; running = tt; later = inl (omega arith); own = inl refl; decisions = refl; silent = refl })) (Next_try e (omega arith) refl (λ e i. i) f tt) (begins r _ _ (inl (omega arith)))
 
   go_chain : (c : ClientState) → c.phase ≡ Between → Reaches c (go r c)
   unfolding go

@@ -7,8 +7,8 @@ use Rattle.protocol.specs.Client.State.Phase.{Between, Running, Prepared}
 use Rattle.protocol.specs.World.State.{Plan, World, rules}
 use Rattle.law_steps.specs.Executions.{Over, IsEarlier}
 use Rattle.law_steps.proofs.PhaseLemmas.{running_under_way, prepared_under_way, running_between}
-use Rattle.law_steps.proofs.ClientActs.{Act, IsQuiet, AllQuiet, IsRunning, IsUnprepared, IsUnderWay, SameStage, WasBegun, IsOpen}
-use Rattle.law_steps.proofs.ClientActs.Act.{Quiet, Advances, Prepares, Counts, Proposes, Accepts, Decides, Gives_up, Learns}
+use Rattle.law_steps.proofs.ClientActs.{ClientAct, IsQuiet, AllQuiet, IsRunning, IsUnprepared, IsUnderWay, SameStage, WasBegun, IsOpen}
+use Rattle.law_steps.proofs.ClientActs.ClientAct.{Quiet, Advances, Prepares, Counts, Proposes, Accepts, Decides, Gives_up, Learns}
 use Rattle.law_steps.proofs.Reach.{Reach, GotAt}
 use Rattle.law_steps.proofs.Induction.{ClientsSaid, clients_said_reach, clients_reach}
 use Rattle.law_steps.proofs.ExecutionsLemmas.{earlier_trans, earlier_itself}
@@ -40,53 +40,53 @@ stage_between (Running a b) q s e = cc
 stage_between (Prepared k v o a) q s e = cc
 
 -- an act leaves the execution, or begins a later one
-pub act_exec : (r : Rules) (Got : NodeId → Body → Type 0) (s s' : ClientState) (sent : List Body) → Act r Got s s' sent → (s'.exec ≡ s.exec) ⊎ IsEarlier s.exec s'.exec
-act_exec r Got s s' sent (Quiet e d g q) = inl e
-act_exec r Got s s' sent (Advances u n l c d q) = inr l
-act_exec r Got s s' sent (Prepares k n e d f q) = inl e
-act_exec r Got s s' sent (Counts k vs acs j v a got b c e d f q) = inl e
-act_exec r Got s s' sent (Proposes k vs acs d0 a b e d f q) = inl e
-act_exec r Got s s' sent (Accepts k vs d0 acs j a got b c e d f q) = inl e
-act_exec r Got s s' sent (Decides k vs o' acs d0 a w e d f q) = inl e
-act_exec r Got s s' sent (Gives_up n e d f q) = inl e
-act_exec r Got s s' sent (Learns j d0 k n got e d f q) = inl e
+pub act_exec : (r : Rules) (Got : NodeId → Body → Type 0) (s s' : ClientState) (sent : List Body) → ClientAct r Got s s' sent → (s'.exec ≡ s.exec) ⊎ IsEarlier s.exec s'.exec
+act_exec r Got s s' sent (Quiet act) = inl act.exec
+act_exec r Got s s' sent (Advances act) = inr act.later
+act_exec r Got s s' sent (Prepares act) = inl act.exec
+act_exec r Got s s' sent (Counts act) = inl act.exec
+act_exec r Got s s' sent (Proposes act) = inl act.exec
+act_exec r Got s s' sent (Accepts act) = inl act.exec
+act_exec r Got s s' sent (Decides act) = inl act.exec
+act_exec r Got s s' sent (Gives_up act) = inl act.exec
+act_exec r Got s s' sent (Learns act) = inl act.exec
 
 module _ (r : Rules) (Got : NodeId → Body → Type 0) (s s' : ClientState) (sent : List Body) where
-  pub act_over : Act r Got s s' sent → (x : Exec) → Over x s → Over x s'
-  act_over (Quiet e d g q) x o = over_same x s s' e (stage_between s.phase s'.phase g) o
-  act_over (Advances u n l c d q) x (inl h) = inl (earlier_trans x s.exec s'.exec h l)
-  act_over (Advances u n l c d q) x (inr h) = inl (rw h.0 l)
-  act_over (Prepares k n e d f q) x o = over_same x s s' e (λ b. absurd (running_between s.phase n b)) o
-  act_over (Counts k vs acs j v a got b c e d f q) x o = over_same x s s' e (λ b. cc) o
-  act_over (Proposes k vs acs d0 a b e d f q) x o = over_same x s s' e (λ b. cc) o
-  act_over (Accepts k vs d0 acs j a got b c e d f q) x o = over_same x s s' e (λ b. cc) o
-  act_over (Decides k vs o' acs d0 a w e d f q) x o = over_same x s s' e (λ b. f) o
-  act_over (Gives_up n e d f q) x o = over_same x s s' e (λ b. f) o
-  act_over (Learns j d0 k n got e d f q) x o = over_same x s s' e (λ b. f) o
+  pub act_over : ClientAct r Got s s' sent → (x : Exec) → Over x s → Over x s'
+  act_over (Quiet act) x o = over_same x s s' act.exec (stage_between s.phase s'.phase act.stage) o
+  act_over (Advances act) x (inl h) = inl (earlier_trans x s.exec s'.exec h act.later)
+  act_over (Advances act) x (inr h) = inl (rw h.0 act.later)
+  act_over (Prepares act) x o = over_same x s s' act.exec (λ b. absurd (running_between s.phase act.running b)) o
+  act_over (Counts act) x o = over_same x s s' act.exec (λ b. let f = act.before in cc) o
+  act_over (Proposes act) x o = over_same x s s' act.exec (λ b. let f = act.before in cc) o
+  act_over (Accepts act) x o = over_same x s s' act.exec (λ b. let f = act.before in cc) o
+  act_over (Decides act) x o = over_same x s s' act.exec (λ b. act.phase) o
+  act_over (Gives_up act) x o = over_same x s s' act.exec (λ b. act.phase) o
+  act_over (Learns act) x o = over_same x s s' act.exec (λ b. act.phase) o
 
   -- what a prepared client keeps until it is over
   pub act_at : (P : Phase → Type 0) → ((p : Phase) → IsUnprepared p → P p → ⊥) → ((k : Content) (vs ws : List CountedVote) (o o' : Option Choice) (acs acs' : List ℕ) → (o ≡ None ⊎ o ≡ o') → P (Prepared k vs o acs) → P (Prepared k ws o' acs'))
-      → Act r Got s s' sent → (x : Exec) → At P x s → At P x s'
+      → ClientAct r Got s s' sent → (x : Exec) → At P x s → At P x s'
   act_at P none more a x (inl o) = inl (act_over a x o)
-  act_at P none more (Quiet e d g q) x (inr h) = go s.phase refl g h.1
+  act_at P none more (Quiet act) x (inr h) = go s.phase refl act.stage h.1
     where
       go : (p : Phase) → s.phase ≡ p → SameStage p s'.phase → P p → At P x s'
       go Between f g h' = absurd (none Between tt h')
       go (Running a b) f g h' = absurd (none (Running a b) tt h')
-      go (Prepared k v o a) f g h' = inr (rw e h.0, subst P (sym g) h')
-  act_at P none more (Advances u n l c d q) x (inr h) = absurd (none s.phase u h.1)
-  act_at P none more (Prepares k n e d f q) x (inr h) = absurd (none s.phase (running_un s.phase n) h.1)
+      go (Prepared k v o a) f g h' = inr (rw act.exec h.0, subst P (sym g) h')
+  act_at P none more (Advances act) x (inr h) = absurd (none s.phase act.from h.1)
+  act_at P none more (Prepares act) x (inr h) = absurd (none s.phase (running_un s.phase act.running) h.1)
     where
       running_un : (p : Phase) → IsRunning p → IsUnprepared p
       running_un Between h = absurd h
       running_un (Running p g) h = tt
       running_un (Prepared k v o a) h = absurd h
-  act_at P none more (Counts k vs acs j v a got b c e d f q) x (inr h) = inr (rw e h.0, subst P (sym f) (more k vs _ None None acs [] (inl refl) (subst P a h.1)))
-  act_at P none more (Proposes k vs acs d0 a b e d f q) x (inr h) = inr (rw e h.0, subst P (sym f) (more k vs vs None (Some d0) acs [] (inl refl) (subst P a h.1)))
-  act_at P none more (Accepts k vs d0 acs j a got b c e d f q) x (inr h) = inr (rw e h.0, subst P (sym f) (more k vs vs (Some d0) (Some d0) acs _ (inr refl) (subst P a h.1)))
-  act_at P none more (Decides k vs o' acs d0 a w e d f q) x (inr h) = inl (inr (rw e h.0, f))
-  act_at P none more (Gives_up n e d f q) x (inr h) = inl (inr (rw e h.0, f))
-  act_at P none more (Learns j d0 k n got e d f q) x (inr h) = inl (inr (rw e h.0, f))
+  act_at P none more (Counts act) x (inr h) = inr (rw act.exec h.0, subst P (sym act.phase) (more act.content act.votes _ None None act.accepts [] (inl refl) (subst P act.before h.1)))
+  act_at P none more (Proposes act) x (inr h) = inr (rw act.exec h.0, subst P (sym act.phase) (more act.content act.votes act.votes None (Some act.choice) act.accepts [] (inl refl) (subst P act.before h.1)))
+  act_at P none more (Accepts act) x (inr h) = inr (rw act.exec h.0, subst P (sym act.phase) (more act.content act.votes act.votes (Some act.choice) (Some act.choice) act.accepts _ (inr refl) (subst P act.before h.1)))
+  act_at P none more (Decides act) x (inr h) = inl (inr (rw act.exec h.0, act.phase))
+  act_at P none more (Gives_up act) x (inr h) = inl (inr (rw act.exec h.0, act.phase))
+  act_at P none more (Learns act) x (inr h) = inl (inr (rw act.exec h.0, act.phase))
 
 -- what a client sent
 abbrev pub CFact : ℕ → ClientState → Body → Type 0
@@ -126,44 +126,44 @@ module _ (r : Rules) (Got : NodeId → Body → Type 0) (s s' : ClientState) (se
   own_same : CRec r.client s → IsUnderWay s.phase → s'.exec ≡ s.exec → s'.exec.ver.client ≡ r.client
   own_same t u e = rw e (t.own u)
 
-  decided_old : CRec r.client s → Act r Got s s' sent → s'.decisions ≡ s.decisions → (d : Decision) → IsIn d s'.decisions → (d.exec.ver.client ≡ r.client) × Over d.exec s'
+  decided_old : CRec r.client s → ClientAct r Got s s' sent → s'.decisions ≡ s.decisions → (d : Decision) → IsIn d s'.decisions → (d.exec.ver.client ≡ r.client) × Over d.exec s'
   decided_old t a e d i = let k = t.done d (rw (← e) i) in (k.0, act_over r Got s s' sent a d.exec k.1)
 
-  decided_new : CRec r.client s → Act r Got s s' sent → IsUnderWay s.phase → s'.exec ≡ s.exec → s'.phase ≡ Between → (n : Choice) → s'.decisions ≡ record { exec = s.exec; choice = n } ∷ s.decisions → (d : Decision) → IsIn d s'.decisions → (d.exec.ver.client ≡ r.client) × Over d.exec s'
+  decided_new : CRec r.client s → ClientAct r Got s s' sent → IsUnderWay s.phase → s'.exec ≡ s.exec → s'.phase ≡ Between → (n : Choice) → s'.decisions ≡ record { exec = s.exec; choice = n } ∷ s.decisions → (d : Decision) → IsIn d s'.decisions → (d.exec.ver.client ≡ r.client) × Over d.exec s'
   decided_new t a u e f n q d i = go (rw q at i)
     where
       go : (d ≡ record { exec = s.exec; choice = n }) ⊎ IsIn d s.decisions → (d.exec.ver.client ≡ r.client) × Over d.exec s'
       go (inl z) = (rw z (t.own u), inr (rw z (sym e), f))
       go (inr i) = let k = t.done d i in (k.0, act_over r Got s s' sent a d.exec k.1)
 
-  pub act_rec : Act r Got s s' sent → CRec r.client s → CRec r.client s'
-  act_rec (Quiet e d g q) t = record { own = λ u. own_same t (stage_under_way s.phase s'.phase g u) e; done = decided_old t (Quiet e d g q) d }
-  act_rec (Advances u n l c d q) t = record { own = λ v. go c; done = decided_old t (Advances u n l c d q) d }
+  pub act_rec : ClientAct r Got s s' sent → CRec r.client s → CRec r.client s'
+  act_rec (Quiet act) t = record { own = λ u. own_same t (stage_under_way s.phase s'.phase act.stage u) act.exec; done = decided_old t (Quiet act) act.decisions }
+  act_rec (Advances act) t = record { own = λ v. go act.own; done = decided_old t (Advances act) act.decisions }
     where
       go : (s'.exec.ver.client ≡ r.client) ⊎ ((s'.exec.ver ≡ s.exec.ver) × WasBegun s) → s'.exec.ver.client ≡ r.client
       go (inl f) = f
       go (inr (f, inl u)) = rw f (t.own u)
       go (inr (f, inr d)) = rw (f, ← d.2) (t.done d.0 d.1).0
-  act_rec (Prepares k n e d f q) t = record { own = λ u. own_same t (running_under_way s.phase n) e; done = decided_old t (Prepares k n e d f q) d }
-  act_rec (Counts k vs acs j v a got b c e d f q) t = record { own = λ u. own_same t (prepared_under_way _ _ _ _ _ a) e; done = decided_old t (Counts k vs acs j v a got b c e d f q) d }
-  act_rec (Proposes k vs acs d0 a b e d f q) t = record { own = λ u. own_same t (prepared_under_way _ _ _ _ _ a) e; done = decided_old t (Proposes k vs acs d0 a b e d f q) d }
-  act_rec (Accepts k vs d0 acs j a got b c e d f q) t = record { own = λ u. own_same t (prepared_under_way _ _ _ _ _ a) e; done = decided_old t (Accepts k vs d0 acs j a got b c e d f q) d }
-  act_rec (Decides k vs o' acs d0 a w e d f q) t = record { own = λ u. own_same t (prepared_under_way _ _ _ _ _ a) e; done = decided_new t (Decides k vs o' acs d0 a w e d f q) (prepared_under_way _ _ _ _ _ a) e f d0 d }
-  act_rec (Gives_up n e d f q) t = record { own = λ u. own_same t (running_under_way s.phase n) e; done = decided_new t (Gives_up n e d f q) (running_under_way s.phase n) e f Abandon d }
-  act_rec (Learns j d0 k n got e d f q) t = record { own = λ u. own_same t n e; done = decided_new t (Learns j d0 k n got e d f q) n e f d0 d }
+  act_rec (Prepares act) t = record { own = λ u. own_same t (running_under_way s.phase act.running) act.exec; done = decided_old t (Prepares act) act.decisions }
+  act_rec (Counts act) t = record { own = λ u. own_same t (prepared_under_way _ _ _ _ _ act.before) act.exec; done = decided_old t (Counts act) act.decisions }
+  act_rec (Proposes act) t = record { own = λ u. own_same t (prepared_under_way _ _ _ _ _ act.before) act.exec; done = decided_old t (Proposes act) act.decisions }
+  act_rec (Accepts act) t = record { own = λ u. own_same t (prepared_under_way _ _ _ _ _ act.before) act.exec; done = decided_old t (Accepts act) act.decisions }
+  act_rec (Decides act) t = record { own = λ u. own_same t (prepared_under_way _ _ _ _ _ act.before) act.exec; done = decided_new t (Decides act) (prepared_under_way _ _ _ _ _ act.before) act.exec act.phase act.choice act.decisions }
+  act_rec (Gives_up act) t = record { own = λ u. own_same t (running_under_way s.phase act.running) act.exec; done = decided_new t (Gives_up act) (running_under_way s.phase act.running) act.exec act.phase Abandon act.decisions }
+  act_rec (Learns act) t = record { own = λ u. own_same t act.under_way act.exec; done = decided_new t (Learns act) act.under_way act.exec act.phase act.choice act.decisions }
 
-  decisions_grow : Act r Got s s' sent → (d : Decision) → IsIn d s.decisions → IsIn d s'.decisions
-  decisions_grow (Quiet e d g q) z i = rw d i
-  decisions_grow (Advances u n l c d q) z i = rw d i
-  decisions_grow (Prepares k n e d f q) z i = rw d i
-  decisions_grow (Counts k vs acs j v a got b c e d f q) z i = rw d i
-  decisions_grow (Proposes k vs acs d0 a b e d f q) z i = rw d i
-  decisions_grow (Accepts k vs d0 acs j a got b c e d f q) z i = rw d i
-  decisions_grow (Decides k vs o' acs d0 a w e d f q) z i = rw d (inr i)
-  decisions_grow (Gives_up n e d f q) z i = rw d (inr i)
-  decisions_grow (Learns j d0 k n got e d f q) z i = rw d (inr i)
+  decisions_grow : ClientAct r Got s s' sent → (d : Decision) → IsIn d s.decisions → IsIn d s'.decisions
+  decisions_grow (Quiet act) z i = rw act.decisions i
+  decisions_grow (Advances act) z i = rw act.decisions i
+  decisions_grow (Prepares act) z i = rw act.decisions i
+  decisions_grow (Counts act) z i = rw act.decisions i
+  decisions_grow (Proposes act) z i = rw act.decisions i
+  decisions_grow (Accepts act) z i = rw act.decisions i
+  decisions_grow (Decides act) z i = rw act.decisions (inr i)
+  decisions_grow (Gives_up act) z i = rw act.decisions (inr i)
+  decisions_grow (Learns act) z i = rw act.decisions (inr i)
 
-  pub said_stays : Act r Got s s' sent → (b : Body) → CFact r.client s b → CFact r.client s' b
+  pub said_stays : ClientAct r Got s s' sent → (b : Body) → CFact r.client s b → CFact r.client s' b
   said_stays a (Prepare x k) f = (f.0, act_at r Got s s' sent (HasPrepared k) (prepared_none k) (λ l vs ws o o' acs acs' e h. h) a x f.1)
   said_stays a (Finalize x v d o) f = (f.0, f.1, act_at r Got s s' sent (HasProposed d o) (proposed_none d o) (proposed_more d o) a x f.2)
   said_stays a (Decide x d o) f = decisions_grow a _ f
@@ -191,16 +191,16 @@ module _ (r : Rules) (Got : NodeId → Body → Type 0) (s s' : ClientState) (se
   none_sent : sent ≡ [] → (b : Body) → IsIn b sent → CFact r.client s' b
   none_sent e b i = absurd (rw e at i)
 
-  pub said_new : CRec r.client s → Act r Got s s' sent → (b : Body) → IsIn b sent → CFact r.client s' b
-  said_new t (Quiet e d g q) b i = quiet_said sent q b i
-  said_new t (Advances u n l c d q) b i = none_sent q b i
-  said_new t (Prepares k n e d f q) b i = only _ q (t.own (running_under_way s.phase n), inr (sym e, rw f refl)) b i
-  said_new t (Counts k vs acs j v a got b' c e d f q) b i = none_sent q b i
-  said_new t (Proposes k vs acs d0 a b' e d f q) b i = only _ q (refl, t.own (prepared_under_way _ _ _ _ _ a), inr (sym e, rw f (refl, refl))) b i
-  said_new t (Accepts k vs d0 acs j a got b' c e d f q) b i = none_sent q b i
-  said_new t (Decides k vs o' acs d0 a w e d f q) b i = only _ q (rw d (inl refl)) b i
-  said_new t (Gives_up n e d f q) b i = only _ q (rw d (inl refl)) b i
-  said_new t (Learns j d0 k n got e d f q) b i = none_sent q b i
+  pub said_new : CRec r.client s → ClientAct r Got s s' sent → (b : Body) → IsIn b sent → CFact r.client s' b
+  said_new t (Quiet act) b i = quiet_said sent act.quiet b i
+  said_new t (Advances act) b i = none_sent act.silent b i
+  said_new t (Prepares act) b i = only _ act.sends (t.own (running_under_way s.phase act.running), inr (sym act.exec, rw act.phase refl)) b i
+  said_new t (Counts act) b i = none_sent act.silent b i
+  said_new t (Proposes act) b i = only _ act.sends (refl, t.own (prepared_under_way _ _ _ _ _ act.before), inr (sym act.exec, rw act.phase (refl, refl))) b i
+  said_new t (Accepts act) b i = none_sent act.silent b i
+  said_new t (Decides act) b i = only _ act.sends (rw act.decisions (inl refl)) b i
+  said_new t (Gives_up act) b i = only _ act.sends (rw act.decisions (inl refl)) b i
+  said_new t (Learns act) b i = none_sent act.silent b i
 
 pub rec_reach : (p : Plan) (w : World) → Reach p w → (c : ℕ) → CRec c (w.client c)
 rec_reach p w q = clients_reach p CRec (λ c. record { own = λ u. absurd u; done = λ d i. absurd i }) (λ v t c s sent a k. act_rec (rules p c) (GotAt v c) (v.client c) s sent a k) w q

@@ -11,8 +11,8 @@ use Rattle.protocol.specs.World.State.{Plan, World, rules, warden_rules, in_rang
 use Rattle.protocol.specs.World.Events.{at, to_all, parcel}
 use Rattle.protocol.proofs.ListsLemmas.{IsIn-cases, at_cases, at_same}
 use Rattle.law_steps.proofs.Reach.{Step, Reach, GotAt, HeardAt}
-use Rattle.law_steps.proofs.ClientActs.{Act}
-use Rattle.law_steps.proofs.WardenActs.{WAct}
+use Rattle.law_steps.proofs.ClientActs.{ClientAct}
+use Rattle.law_steps.proofs.WardenActs.{WardenAct}
 use Rattle.law_steps.proofs.Reach.Step.{Stands, Client_acts, Replica_acts, Warden_acts}
 use Rattle.law_steps.proofs.Reach.From.{Begins, Next}
 use Rattle.law_steps.proofs.SaysLemmas.{spoken}
@@ -63,7 +63,7 @@ from_replica_not r c n e f = cc
 
 pub clients_said : (p : Plan) (G : ℕ → ClientState → Body → Type 0)
     → (w w' : World)
-    → ((c : ℕ) (s : ClientState) (sent : List Body) → Act (rules p c) (GotAt w c) (w.client c) s sent → ((b : Body) → G c (w.client c) b → G c s b) × ((b : Body) → IsIn b sent → G c s b))
+    → ((c : ℕ) (s : ClientState) (sent : List Body) → ClientAct (rules p c) (GotAt w c) (w.client c) s sent → ((b : Body) → G c (w.client c) b → G c s b) × ((b : Body) → IsIn b sent → G c s b))
     → Step p w w' → ClientsSaid G w → ClientsSaid G w'
 clients_said p G w w' f (Stands s) t = record { said = λ e c. rw (s.mail, s.client) (t.said e c) }
 clients_said p G w w' f (Replica_acts s) t = record { said = λ e c i q. rw s.client (go e c (IsIn-cases e w.mail _ (rw s.mail at i)) q) }
@@ -87,14 +87,14 @@ clients_said p G w w' f (Client_acts s) t = record { said = λ e c i q. rw s.cli
         (rw at_same ((f s.c s.state s.sent s.act).1 e.body k.1))
 
 pub clients_said_reach : (p : Plan) (G : ℕ → ClientState → Body → Type 0)
-    → ((w : World) → Reach p w → (c : ℕ) (s : ClientState) (sent : List Body) → Act (rules p c) (GotAt w c) (w.client c) s sent → ((b : Body) → G c (w.client c) b → G c s b) × ((b : Body) → IsIn b sent → G c s b))
+    → ((w : World) → Reach p w → (c : ℕ) (s : ClientState) (sent : List Body) → ClientAct (rules p c) (GotAt w c) (w.client c) s sent → ((b : Body) → G c (w.client c) b → G c s b) × ((b : Body) → IsIn b sent → G c s b))
     → (w : World) → Reach p w → ClientsSaid G w
 clients_said_reach p G f _ Begins = record { said = λ e c i. absurd i }
 clients_said_reach p G f _ (Next w w' r s) = clients_said p G w w' (f w r) s (clients_said_reach p G f w r)
 
 -- a fact of each client's record, which each act keeps
 pub clients_reach : (p : Plan) (K : ℕ → ClientState → Type 0) → ((c : ℕ) → K c fresh_client)
-    → ((w : World) → Reach p w → (c : ℕ) (s : ClientState) (sent : List Body) → Act (rules p c) (GotAt w c) (w.client c) s sent → K c (w.client c) → K c s)
+    → ((w : World) → Reach p w → (c : ℕ) (s : ClientState) (sent : List Body) → ClientAct (rules p c) (GotAt w c) (w.client c) s sent → K c (w.client c) → K c s)
     → (w : World) → Reach p w → (c : ℕ) → K c (w.client c)
 clients_reach p K k f _ Begins c = k c
 clients_reach p K k f _ (Next w w' r (Stands s)) c = rw s.client (clients_reach p K k f w r c)
@@ -109,7 +109,7 @@ pub record WardensSaid (H : ℕ → WardenState → Body → Type 0) (w : World)
 
 pub wardens_said : (p : Plan) (H : ℕ → WardenState → Body → Type 0)
     → (w w' : World)
-    → ((k : ℕ) (s : WardenState) (sent : List Parcel) → in_range k p.wardens ≡ true → WAct (warden_rules p k) (HeardAt w k) (w.warden k) s sent → ((b : Body) → H k (w.warden k) b → H k s b) × ((a : Parcel) → IsIn a sent → H k s (parcel_body a)))
+    → ((k : ℕ) (s : WardenState) (sent : List Parcel) → in_range k p.wardens ≡ true → WardenAct (warden_rules p k) (HeardAt w k) (w.warden k) s sent → ((b : Body) → H k (w.warden k) b → H k s b) × ((a : Parcel) → IsIn a sent → H k s (parcel_body a)))
     → Step p w w' → WardensSaid H w → WardensSaid H w'
 wardens_said p H w w' f (Stands s) t = record { said = λ e c. rw (s.mail, s.warden) (t.said e c) }
 wardens_said p H w w' f (Replica_acts s) t = record { said = λ e c i q. rw s.warden (go e c (IsIn-cases e w.mail _ (rw s.mail at i)) q) }
@@ -133,13 +133,13 @@ wardens_said p H w w' f (Warden_acts s) t = record { said = λ e c i q. rw s.war
         (rw at_same (subst (H s.k s.state) (sym k.3) ((f s.k s.state s.sent s.real s.act).1 k.1 k.2)))
 
 pub wardens_said_reach : (p : Plan) (H : ℕ → WardenState → Body → Type 0)
-    → ((w : World) → Reach p w → (k : ℕ) (s : WardenState) (sent : List Parcel) → in_range k p.wardens ≡ true → WAct (warden_rules p k) (HeardAt w k) (w.warden k) s sent → ((b : Body) → H k (w.warden k) b → H k s b) × ((a : Parcel) → IsIn a sent → H k s (parcel_body a)))
+    → ((w : World) → Reach p w → (k : ℕ) (s : WardenState) (sent : List Parcel) → in_range k p.wardens ≡ true → WardenAct (warden_rules p k) (HeardAt w k) (w.warden k) s sent → ((b : Body) → H k (w.warden k) b → H k s b) × ((a : Parcel) → IsIn a sent → H k s (parcel_body a)))
     → (w : World) → Reach p w → WardensSaid H w
 wardens_said_reach p H f _ Begins = record { said = λ e k i. absurd i }
 wardens_said_reach p H f _ (Next w w' r s) = wardens_said p H w w' (f w r) s (wardens_said_reach p H f w r)
 
 pub wardens_reach : (p : Plan) (K : ℕ → WardenState → Type 0) → ((k : ℕ) → K k fresh_warden)
-    → ((w : World) → Reach p w → (k : ℕ) (s : WardenState) (sent : List Parcel) → in_range k p.wardens ≡ true → WAct (warden_rules p k) (HeardAt w k) (w.warden k) s sent → K k (w.warden k) → K k s)
+    → ((w : World) → Reach p w → (k : ℕ) (s : WardenState) (sent : List Parcel) → in_range k p.wardens ≡ true → WardenAct (warden_rules p k) (HeardAt w k) (w.warden k) s sent → K k (w.warden k) → K k s)
     → (w : World) → Reach p w → (k : ℕ) → K k (w.warden k)
 wardens_reach p K k f _ Begins c = k c
 wardens_reach p K k f _ (Next w w' r (Stands s)) c = rw s.warden (wardens_reach p K k f w r c)

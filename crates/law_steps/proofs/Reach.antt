@@ -11,15 +11,15 @@ use Rattle.protocol.specs.Client.Step.Input.{Goes, Runs, Hurries, Comes}
 use Rattle.protocol.specs.World.State.{Plan, World, in_range, rules, warden_rules, first_world}
 use Rattle.protocol.specs.World.Events.{at, to_all, parcel, after, replay_from}
 use Rattle.protocol.proofs.ListsLemmas.{IsIn-left, at_same, at_cases}
-use Rattle.law_steps.proofs.ClientActs.{Act, TryStep, WriteStep, Chain}
+use Rattle.law_steps.proofs.ClientActs.{ClientAct, TryStep, WriteStep, Chain}
 use Rattle.law_steps.proofs.ClientChain.{client_chain, CameTo}
-use Rattle.law_steps.proofs.ClientActs.Act.{Quiet, Advances, Prepares, Counts, Proposes, Accepts, Decides, Gives_up, Learns}
+use Rattle.law_steps.proofs.ClientActs.ClientAct.{Quiet, Advances, Prepares, Counts, Proposes, Accepts, Decides, Gives_up, Learns}
 use Rattle.law_steps.proofs.ClientActs.Chain.{Start, Then}
 use Rattle.protocol.specs.World.Steps.{Happens, Stayed, ByReplica, Came, Heard}
 use Rattle.protocol.proofs.EventSteps.{after_happens}
-use Rattle.law_steps.proofs.WardenActs.{WAct, WChain, warden_acts, HeardBy}
-use Rattle.law_steps.proofs.WardenActs.WAct.{Stills, Asks, Tolds, Accepts as Ward_accepts, Begins_cut, Counts_fenced, Ends_cut}
-use Rattle.law_steps.proofs.WardenActs.WChain.{Start as Wards_start, Then as Wards_then}
+use Rattle.law_steps.proofs.WardenActs.{WardenAct, WardenChain, warden_acts, HeardBy}
+use Rattle.law_steps.proofs.WardenActs.WardenAct.{Rests, Asks, Counts_told, Counts_accepted, Begins_truncation, Counts_fenced, Ends_truncation}
+use Rattle.law_steps.proofs.WardenActs.WardenChain.{Start as Wards_start, Then as Wards_then}
 use Rattle.protocol.specs.Warden.State.{WardenRules, WardenState, Parcel}
 use Rattle.protocol.specs.Warden.Step.{WardenInput}
 use Rattle.protocol.specs.Warden.Step.WardenInput.{Recovers, Truncates, Hears}
@@ -34,7 +34,7 @@ pub record ByClientAct (p : Plan) (w w' : World) : Type 0 where
   pub real : in_range c (length p.clients) ≡ true
   pub state : ClientState
   pub sent : List Body
-  pub act : Act (rules p c) (GotAt w c) (w.client c) state sent
+  pub act : ClientAct (rules p c) (GotAt w c) (w.client c) state sent
   pub tries : TryStep (w.client c) state
   pub writes : WriteStep (rules p c) (w.client c) state sent
   pub client : w'.client ≡ at c state w.client
@@ -50,7 +50,7 @@ pub record ByWardenAct (p : Plan) (w w' : World) : Type 0 where
   pub real : in_range k p.wardens ≡ true
   pub state : WardenState
   pub sent : List Parcel
-  pub act : WAct (warden_rules p k) (HeardAt w k) (w.warden k) state sent
+  pub act : WardenAct (warden_rules p k) (HeardAt w k) (w.warden k) state sent
   pub client : w'.client ≡ w.client
   pub replica : w'.replica ≡ w.replica
   pub warden : w'.warden ≡ at k state w.warden
@@ -76,16 +76,16 @@ from_trans p o v _ a Begins = a
 from_trans p o v _ a (Next w w' b s) = Next w w' (from_trans p o v w a b) s
 
 -- the evidence of an act holds in a world with more mail
-act_grows : (r : Rules) (G H : NodeId → Body → Type 0) → ((n : NodeId) (b : Body) → G n b → H n b) → (c c' : ClientState) (sent : List Body) → Act r G c c' sent → Act r H c c' sent
-act_grows r G H f c c' sent (Quiet a b d e) = Quiet a b d e
-act_grows r G H f c c' sent (Advances a b d e g h) = Advances a b d e g h
-act_grows r G H f c c' sent (Prepares k a b d e g) = Prepares k a b d e g
-act_grows r G H f c c' sent (Counts k vs acs j v a got b d e g h i) = Counts k vs acs j v a (f _ _ got) b d e g h i
-act_grows r G H f c c' sent (Proposes k vs acs d a b e g h i) = Proposes k vs acs d a b e g h i
-act_grows r G H f c c' sent (Accepts k vs d acs j a got b e g h i l) = Accepts k vs d acs j a (f _ _ got) b e g h i l
-act_grows r G H f c c' sent (Decides k vs o acs d a b e g h i) = Decides k vs o acs d a b e g h i
-act_grows r G H f c c' sent (Gives_up a b d e g) = Gives_up a b d e g
-act_grows r G H f c c' sent (Learns j d k a got b e g h) = Learns j d k a (f _ _ got) b e g h
+act_grows : (r : Rules) (G H : NodeId → Body → Type 0) → ((n : NodeId) (b : Body) → G n b → H n b) → (c c' : ClientState) (sent : List Body) → ClientAct r G c c' sent → ClientAct r H c c' sent
+act_grows r G H f c c' sent (Quiet act) = Quiet act
+act_grows r G H f c c' sent (Advances act) = Advances act
+act_grows r G H f c c' sent (Prepares act) = Prepares act
+act_grows r G H f c c' sent (Counts act) = Counts (record { content = act.content; votes = act.votes; accepts = act.accepts; replica = act.replica; vote = act.vote; before = act.before; got = f _ _ act.got; range = act.range; fresh = act.fresh; exec = act.exec; decisions = act.decisions; phase = act.phase; silent = act.silent })
+act_grows r G H f c c' sent (Proposes act) = Proposes act
+act_grows r G H f c c' sent (Accepts act) = Accepts (record { content = act.content; votes = act.votes; choice = act.choice; accepts = act.accepts; replica = act.replica; before = act.before; got = f _ _ act.got; range = act.range; fresh = act.fresh; exec = act.exec; decisions = act.decisions; phase = act.phase; silent = act.silent })
+act_grows r G H f c c' sent (Decides act) = Decides act
+act_grows r G H f c c' sent (Gives_up act) = Gives_up act
+act_grows r G H f c c' sent (Learns act) = Learns (record { warden = act.warden; choice = act.choice; content = act.content; under_way = act.under_way; got = f _ _ act.got; exec = act.exec; decisions = act.decisions; phase = act.phase; silent = act.silent })
 
 -- the world in which client c is in state s and has sent these
 part_way : Plan → World → ℕ → ClientState → List Body → World
@@ -111,7 +111,7 @@ module _ (p : Plan) (o w : World) (c : ℕ) (real : in_range c (length p.clients
         real = real;
         state = c2;
         sent = s2;
-        act = subst (λ z. Act (rules p c) (GotAt (part_way p w c c1 s1) c) z c2 s2) (sym (at_same c c1 w.client))
+        act = subst (λ z. ClientAct (rules p c) (GotAt (part_way p w c c1 s1) c) z c2 s2) (sym (at_same c c1 w.client))
             (act_grows (rules p c) (GotAt w c) (GotAt (part_way p w c c1 s1) c) (λ n b g. (g.0, IsIn-left g.0 w.mail _ g.1, g.2, g.3, g.4)) c1 c2 s2 act);
         tries = subst (λ z. TryStep z c2) (sym (at_same c c1 w.client)) tries;
         writes = subst (λ z. WriteStep (rules p c) z c2 s2) (sym (at_same c c1 w.client)) writes;
@@ -133,21 +133,21 @@ heard_is p w k (Recovers x) h = tt
 heard_is p w k (Truncates v) h = tt
 
 -- the same of a warden's acts
-wact_grows : (r : WardenRules) (G H : NodeId → Body → Type 0) → ((n : NodeId) (b : Body) → G n b → H n b) → (s s' : WardenState) (sent : List Parcel) → WAct r G s s' sent → WAct r H s s' sent
-wact_grows r G H f s s' sent (Stills a b) = Stills a b
-wact_grows r G H f s s' sent (Asks x a b) = Asks x a b
-wact_grows r G H f s s' sent (Tolds x v t a o b c got d e g h) = Tolds x v t a o b c (f _ _ got) d e g h
-wact_grows r G H f s s' sent (Ward_accepts x v j a p b c got d e g h i) = Ward_accepts x v j a p b c (f _ _ got) d e g h i
-wact_grows r G H f s s' sent (Begins_cut v a b c) = Begins_cut v a b c
-wact_grows r G H f s s' sent (Counts_fenced t ts a e got b c d g) = Counts_fenced t ts a e (f _ _ got) b c d g
-wact_grows r G H f s s' sent (Ends_cut t ts a b c d e) = Ends_cut t ts a b c d e
+warden_act_grows : (r : WardenRules) (G H : NodeId → Body → Type 0) → ((n : NodeId) (b : Body) → G n b → H n b) → (s s' : WardenState) (sent : List Parcel) → WardenAct r G s s' sent → WardenAct r H s s' sent
+warden_act_grows r G H f s s' sent (Rests act) = Rests act
+warden_act_grows r G H f s s' sent (Asks act) = Asks act
+warden_act_grows r G H f s s' sent (Counts_told act) = Counts_told (record { exec = act.exec; view = act.view; told = act.told; round = act.round; proposal = act.proposal; found = act.found; unproposed = act.unproposed; got = f _ _ act.got; range = act.range; fresh = act.fresh; state = act.state; outcome = act.outcome })
+warden_act_grows r G H f s s' sent (Counts_accepted act) = Counts_accepted (record { exec = act.exec; view = act.view; replica = act.replica; round = act.round; proposal = act.proposal; found = act.found; proposed = act.proposed; got = f _ _ act.got; range = act.range; fresh = act.fresh; rounds = act.rounds; truncations = act.truncations; outcome = act.outcome })
+warden_act_grows r G H f s s' sent (Begins_truncation act) = Begins_truncation act
+warden_act_grows r G H f s s' sent (Counts_fenced act) = Counts_fenced (record { truncation = act.truncation; rest = act.rest; answer = act.answer; truncations = act.truncations; got = f _ _ act.got; range = act.range; fresh = act.fresh; state = act.state; silent = act.silent })
+warden_act_grows r G H f s s' sent (Ends_truncation act) = Ends_truncation act
 
 -- the world in which warden k is in state s and has sent these
 ward_way : Plan → World → ℕ → WardenState → List Parcel → World
 ward_way p w k s sent = record { client = w.client; replica = w.replica; warden = at k s w.warden; mail = w.mail ++ flat_map (parcel p.replicas (Warden k)) sent; delivered = w.delivered; stopped = w.stopped; moved = w.moved }
 
 module _ (p : Plan) (o w : World) (k : ℕ) (real : in_range k p.wardens ≡ true) (r : From p o w) where
-  wchain_reach : (s : WardenState) (sent : List Parcel) → WChain (warden_rules p k) (HeardAt w k) (w.warden k) s sent → From p o (ward_way p w k s sent)
+  wchain_reach : (s : WardenState) (sent : List Parcel) → WardenChain (warden_rules p k) (HeardAt w k) (w.warden k) s sent → From p o (ward_way p w k s sent)
   unfolding ward_way
   wchain_reach s sent Wards_start = Next w _ r (Stands (record { client = refl; replica = refl; warden = at_itself k w.warden; mail = append-nil w.mail }))
   wchain_reach s sent (Wards_then s1 s2 p1 p2 chain act) =
@@ -156,8 +156,8 @@ module _ (p : Plan) (o w : World) (k : ℕ) (real : in_range k p.wardens ≡ tru
         real = real;
         state = s2;
         sent = p2;
-        act = subst (λ z. WAct (warden_rules p k) (HeardAt (ward_way p w k s1 p1) k) z s2 p2) (sym (at_same k s1 w.warden))
-            (wact_grows (warden_rules p k) (HeardAt w k) (HeardAt (ward_way p w k s1 p1) k) (λ n b g. (g.0, IsIn-left g.0 w.mail _ g.1, g.2, g.3, g.4)) s1 s2 p2 act);
+        act = subst (λ z. WardenAct (warden_rules p k) (HeardAt (ward_way p w k s1 p1) k) z s2 p2) (sym (at_same k s1 w.warden))
+            (warden_act_grows (warden_rules p k) (HeardAt w k) (HeardAt (ward_way p w k s1 p1) k) (λ n b g. (g.0, IsIn-left g.0 w.mail _ g.1, g.2, g.3, g.4)) s1 s2 p2 act);
         client = refl;
         replica = refl;
         warden = at_twice k s1 s2 w.warden;

@@ -10,8 +10,8 @@ use Rattle.protocol.specs.Warden.State.Parcel.{To_all, To_client}
 use Rattle.protocol.specs.World.State.{Plan, World, in_range, warden_rules}
 use Rattle.protocol.proofs.TestLemmas.{and_left, and_right, eqb_is, le_is, lt_is}
 use Rattle.protocol.proofs.NamesLemmas.{exec_is, same_exec_refl}
-use Rattle.law_steps.proofs.WardenActs.{WAct, told_round}
-use Rattle.law_steps.proofs.WardenActs.WAct.{Stills, Asks, Tolds, Accepts, Begins_cut, Counts_fenced, Ends_cut}
+use Rattle.law_steps.proofs.WardenActs.{WardenAct, told_round}
+use Rattle.law_steps.proofs.WardenActs.WardenAct.{Rests, Asks, Counts_told, Counts_accepted, Begins_truncation, Counts_fenced, Ends_truncation}
 use Rattle.law_steps.proofs.Reach.{Reach, HeardAt}
 use Rattle.law_steps.proofs.Induction.{WardensSaid, wardens_said_reach, wardens_reach}
 use Rattle.law_steps.proofs.SendingLemmas.{parcel_body}
@@ -120,22 +120,22 @@ module _ (r : WardenRules) (Got : NodeId → Body → Type 0) (s s' : WardenStat
       go g (inl z) = let k = t.numbered a g.0 in (k.0, subst (λ (y : ℕ). k.0 < y) (sym (put_used x b.exec v new s.rounds (e ∙ g.1))) (subst (λ (y : Exec). k.0 < used y s.rounds) (sym (ap (λ (y : Round). y.exec) z ∙ e)) k.1), ap (λ (y : Round). y.view) z ∙ f ∙ k.2)
       go g (inr j) = let k = t.numbered b j in (k.0, subst (λ (y : ℕ). k.0 < y) (sym (put_used x b.exec v new s.rounds (e ∙ g.1))) k.1, k.2)
 
-  pub act_numbered : WAct r Got s s' sent → WRec r.wardens r.warden s → WRec r.wardens r.warden s'
+  pub act_numbered : WardenAct r Got s s' sent → WRec r.wardens r.warden s → WRec r.wardens r.warden s'
   unfolding recover next_view
-  act_numbered (Stills e q) t = rw e t
-  act_numbered (Asks x e q) t = rw e (record { numbered = go })
+  act_numbered (Rests act) t = rw act.state t
+  act_numbered (Asks act) t = rw act.state (record { numbered = go })
     where
       New : Round
-      New = record { exec = x; view = r.warden + used x s.rounds * r.wardens; tolds = []; proposal = None; accepts = [] }
+      New = record { exec = act.exec; view = r.warden + used act.exec s.rounds * r.wardens; tolds = []; proposal = None; accepts = [] }
 
-      go : (a : Round) → IsIn a (record { exec = x; view = r.warden + used x s.rounds * r.wardens; tolds = []; proposal = None; accepts = [] } ∷ s.rounds) → IsNumbered r.warden r.wardens (record { exec = x; view = r.warden + used x s.rounds * r.wardens; tolds = []; proposal = None; accepts = [] } ∷ s.rounds) a
-      go a (inl z) = subst (λ (b : Round). IsNumbered r.warden r.wardens (record { exec = x; view = r.warden + used x s.rounds * r.wardens; tolds = []; proposal = None; accepts = [] } ∷ s.rounds) b) (sym z) (used x s.rounds, used_new x s.rounds, refl)
-      go a (inr i) = let k = t.numbered a i in let m = used_more x a.exec s.rounds (record { exec = x; view = r.warden + used x s.rounds * r.wardens; tolds = []; proposal = None; accepts = [] }) refl in (k.0, (let l = k.1 in omega (arith, l, m)), k.2)
-  act_numbered (Tolds x v t' a o q n got range l e w) t = rw e (record { numbered = put_numbered t x v a (told_round a t' o) q refl refl })
-  act_numbered (Accepts x v j a p q n got range l e e2 w) t = record { numbered = subst (λ (rounds : List Round). (b : Round) → IsIn b rounds → IsNumbered r.warden r.wardens rounds b) (sym e) (put_numbered t x v a (with_accept a p j) q refl refl) }
-  act_numbered (Begins_cut v g e q) t = rw e (record { numbered = t.numbered })
-  act_numbered (Counts_fenced c ts a g got range l e q) t = rw e (record { numbered = t.numbered })
-  act_numbered (Ends_cut c ts g l k e q) t = rw e (record { numbered = t.numbered })
+      go : (a : Round) → IsIn a (record { exec = act.exec; view = r.warden + used act.exec s.rounds * r.wardens; tolds = []; proposal = None; accepts = [] } ∷ s.rounds) → IsNumbered r.warden r.wardens (record { exec = act.exec; view = r.warden + used act.exec s.rounds * r.wardens; tolds = []; proposal = None; accepts = [] } ∷ s.rounds) a
+      go a (inl z) = subst (λ (b : Round). IsNumbered r.warden r.wardens (record { exec = act.exec; view = r.warden + used act.exec s.rounds * r.wardens; tolds = []; proposal = None; accepts = [] } ∷ s.rounds) b) (sym z) (used act.exec s.rounds, used_new act.exec s.rounds, refl)
+      go a (inr i) = let k = t.numbered a i in let m = used_more act.exec a.exec s.rounds (record { exec = act.exec; view = r.warden + used act.exec s.rounds * r.wardens; tolds = []; proposal = None; accepts = [] }) refl in (k.0, (let l = k.1 in omega (arith, l, m)), k.2)
+  act_numbered (Counts_told act) t = rw act.state (record { numbered = put_numbered t act.exec act.view act.round (told_round act.round act.told act.proposal) act.found refl refl })
+  act_numbered (Counts_accepted act) t = record { numbered = subst (λ (rounds : List Round). (b : Round) → IsIn b rounds → IsNumbered r.warden r.wardens rounds b) (sym act.rounds) (put_numbered t act.exec act.view act.round (with_accept act.round act.proposal act.replica) act.found refl refl) }
+  act_numbered (Begins_truncation act) t = rw act.state (record { numbered = t.numbered })
+  act_numbered (Counts_fenced act) t = rw act.state (record { numbered = t.numbered })
+  act_numbered (Ends_truncation act) t = rw act.state (record { numbered = t.numbered })
 
   put_proposed : (x y : Exec) (v u : ℕ) (a new : Round) (p : Proposal) → round_of x v s.rounds ≡ Some a → new.exec ≡ a.exec → new.view ≡ a.view → ((q : Proposal) → a.proposal ≡ Some q → new.proposal ≡ Some q) → Proposed y u p s.rounds → Proposed y u p (with_round x v new s.rounds)
   put_proposed x y v u a new p q e f k h = let g = round_found x v s.rounds a q in go g (put_kept x y v u new s.rounds a h.0 (e ∙ g.1) (f ∙ g.2) q h.1)
@@ -146,38 +146,37 @@ module _ (r : WardenRules) (Got : NodeId → Body → Type 0) (s s' : WardenStat
           let same2 : a ≡ h.0 = cc in
           (new, subst (λ (y : Exec). round_of y u (with_round x v new s.rounds) ≡ Some new) (sym z.0) (subst (λ (u : ℕ). round_of x u (with_round x v new s.rounds) ≡ Some new) (sym z.1) (put_found x v new s.rounds a (e ∙ g.1) (f ∙ g.2) q)), k p (rw same2 h.2))
 
-  pub act_proposed : WAct r Got s s' sent → WRec r.wardens r.warden s → (y : Exec) (u : ℕ) (p : Proposal) → Proposed y u p s.rounds → Proposed y u p s'.rounds
+  pub act_proposed : WardenAct r Got s s' sent → WRec r.wardens r.warden s → (y : Exec) (u : ℕ) (p : Proposal) → Proposed y u p s.rounds → Proposed y u p s'.rounds
   unfolding recover next_view
-  act_proposed (Stills e q) t y u p h = rw e h
-  act_proposed (Asks x e q) t y u p h = rw e (h.0, go (same_exec y x && (r.warden + used x s.rounds * r.wardens == u)) refl, h.2)
+  act_proposed (Rests act) t y u p h = rw act.state h
+  act_proposed (Asks act) t y u p h = rw act.state (h.0, go (same_exec y act.exec && (r.warden + used act.exec s.rounds * r.wardens == u)) refl, h.2)
     where
-      go : (z : Bool) → (same_exec y x && (r.warden + used x s.rounds * r.wardens == u)) ≡ z → cond z (Some (record { exec = x; view = r.warden + used x s.rounds * r.wardens; tolds = []; proposal = None; accepts = [] })) (round_of y u s.rounds) ≡ Some h.0
+      go : (z : Bool) → (same_exec y act.exec && (r.warden + used act.exec s.rounds * r.wardens == u)) ≡ z → cond z (Some (record { exec = act.exec; view = r.warden + used act.exec s.rounds * r.wardens; tolds = []; proposal = None; accepts = [] })) (round_of y u s.rounds) ≡ Some h.0
       go false f = h.1
       go true f = let g = round_found y u s.rounds h.0 h.1 in let k = t.numbered h.0 g.0 in
-          let same : h.0.exec ≡ x = g.1 ∙ exec_is y x (and_left _ _ f) in
-          let lt : k.0 < used x s.rounds = subst (λ (z : Exec). k.0 < used z s.rounds) same k.1 in
-          let below = later_view r.warden r.wardens k.0 (used x s.rounds) pos lt in
-          let is : r.warden + used x s.rounds * r.wardens ≡ u = eqb_is _ _ (and_right (same_exec y x) _ f) in
+          let same : h.0.exec ≡ act.exec = g.1 ∙ exec_is y act.exec (and_left _ _ f) in
+          let lt : k.0 < used act.exec s.rounds = subst (λ (z : Exec). k.0 < used z s.rounds) same k.1 in
+          let below = later_view r.warden r.wardens k.0 (used act.exec s.rounds) pos lt in
+          let is : r.warden + used act.exec s.rounds * r.wardens ≡ u = eqb_is _ _ (and_right (same_exec y act.exec) _ f) in
           let v1 = k.2 in let v2 = g.2 in
           absurd (omega (arith, below, is, v1, v2))
-  act_proposed (Tolds x v t' a o q n got range l e w) t y u p h = rw e (put_proposed x y v u a (told_round a t' o) p q refl refl (λ z f. cc) h)
-  act_proposed (Accepts x v j a p' q n got range l e e2 w) t y u p h = rw e (put_proposed x y v u a (with_accept a p' j) p q refl refl (λ z f. sym n ∙ f) h)
-  act_proposed (Begins_cut v g e q) t y u p h = rw e h
-  act_proposed (Counts_fenced c ts a g got range l e q) t y u p h = rw e h
-  act_proposed (Ends_cut c ts g l k e q) t y u p h = rw e h
+  act_proposed (Counts_told act) t y u p h = rw act.state (put_proposed act.exec y act.view u act.round (told_round act.round act.told act.proposal) p act.found refl refl (λ z f. cc) h)
+  act_proposed (Counts_accepted act) t y u p h = rw act.rounds (put_proposed act.exec y act.view u act.round (with_accept act.round act.proposal act.replica) p act.found refl refl (λ z f. sym act.proposed ∙ f) h)
+  act_proposed (Begins_truncation act) t y u p h = rw act.state h
+  act_proposed (Counts_fenced act) t y u p h = rw act.state h
+  act_proposed (Ends_truncation act) t y u p h = rw act.state h
 
-  decisions_grow : WAct r Got s s' sent → (d : DecidedProposal) → IsIn d s.decisions → IsIn d s'.decisions
+  decisions_grow : WardenAct r Got s s' sent → (d : DecidedProposal) → IsIn d s.decisions → IsIn d s'.decisions
   unfolding recover next_view
-  decisions_grow (Stills e q) d i = rw e i
-  decisions_grow (Asks x e q) d i = rw e i
-  decisions_grow (Tolds x v t' a o q n got range l e w) d i = rw e i
-  decisions_grow (Accepts x v j a p' q n got range l e e2 (inl w)) d i = rw w.0 i
-  decisions_grow (Accepts x v j a p' q n got range l e e2 (inr w)) d i = rw w.0 (inr i)
-  decisions_grow (Begins_cut v g e q) d i = rw e i
-  decisions_grow (Counts_fenced c ts a g got range l e q) d i = rw e i
-  decisions_grow (Ends_cut c ts g l k e q) d i = rw e i
+  decisions_grow (Rests act) d i = rw act.state i
+  decisions_grow (Asks act) d i = rw act.state i
+  decisions_grow (Counts_told act) d i = rw act.state i
+  decisions_grow (Counts_accepted act) d i = elim act.outcome [ inl w ↦ rw w.0 i | inr w ↦ rw w.0 (inr i) ]
+  decisions_grow (Begins_truncation act) d i = rw act.state i
+  decisions_grow (Counts_fenced act) d i = rw act.state i
+  decisions_grow (Ends_truncation act) d i = rw act.state i
 
-  pub ward_stays : WAct r Got s s' sent → WRec r.wardens r.warden s → (b : Body) → WFact r.wardens r.warden s b → WFact r.wardens r.warden s' b
+  pub ward_stays : WardenAct r Got s s' sent → WRec r.wardens r.warden s → (b : Body) → WFact r.wardens r.warden s b → WFact r.wardens r.warden s' b
   ward_stays a t (Finalize x v d o) f = (f.0, act_proposed a t x v (record { choice = d; content = o }) f.1)
   ward_stays a t (Decide x d o) f = decisions_grow a _ f
   ward_stays a t (Ask x v) f = tt
@@ -200,24 +199,22 @@ module _ (r : WardenRules) (Got : NodeId → Body → Type 0) (s s' : WardenStat
       go true (inr e) = absurd e
       go false i = absurd i
 
-  pub ward_new : WAct r Got s s' sent → (b : Parcel) → IsIn b sent → WFact r.wardens r.warden s' (parcel_body b)
-  ward_new (Stills e q) b i = absurd (rw q at i)
-  ward_new (Asks x e q) b i = only _ q tt b i
-  ward_new (Tolds x v t' a o q n got rng l e (inl w)) b i = absurd (rw w.1 at i)
-  ward_new (Tolds x v t' a o q n got rng l e (inr w)) b i = let g = round_found x v s.rounds a q in
-      only _ w.2 (range, rw e (told_round a t' o, put_found x v (told_round a t' o) s.rounds a g.1 g.2 q, w.0)) b i
-  ward_new (Accepts x v j a p' q n got range l e e2 (inl w)) b i = absurd (rw w.1 at i)
-  ward_new (Accepts x v j a p' q n got range l e e2 (inr w)) b i = go (rw w.2 at i)
+  pub ward_new : WardenAct r Got s s' sent → (b : Parcel) → IsIn b sent → WFact r.wardens r.warden s' (parcel_body b)
+  ward_new (Rests act) b i = absurd (rw act.silent at i)
+  ward_new (Asks act) b i = only _ act.sends tt b i
+  ward_new (Counts_told act) b i = elim act.outcome [
+    | inl w ↦ absurd (rw w.1 at i)
+    | inr w ↦ let g = round_found act.exec act.view s.rounds act.round act.found in
+        only _ w.2 (range, rw act.state (told_round act.round act.told act.proposal, put_found act.exec act.view (told_round act.round act.told act.proposal) s.rounds act.round g.1 g.2 act.found, w.0)) b i
+  ]
+  ward_new (Counts_accepted act) b i = elim act.outcome [ inl w ↦ absurd (rw w.1 at i) | inr w ↦ go w.0 (rw w.2 at i) ]
     where
-      here : WFact r.wardens r.warden s' (Decide x p'.choice p'.content)
-      here = rw w.0 (inl refl)
-
-      go : (b ≡ To_all (Decide x p'.choice p'.content)) ⊎ IsIn b (to_client r x (Decide x p'.choice p'.content)) → WFact r.wardens r.warden s' (parcel_body b)
-      go (inl z) = rw (z, w.0) (inl refl)
-      go (inr z) = rw (to_client_body x (Decide x p'.choice p'.content) b z, w.0) (inl refl)
-  ward_new (Begins_cut v g e q) b i = only _ q tt b i
-  ward_new (Counts_fenced c ts a g got rng l e q) b i = absurd (rw q at i)
-  ward_new (Ends_cut c ts g l k e q) b i = only _ q tt b i
+      go : s'.decisions ≡ record { exec = act.exec; proposal = act.proposal } ∷ s.decisions → (b ≡ To_all (Decide act.exec act.proposal.choice act.proposal.content)) ⊎ IsIn b (to_client r act.exec (Decide act.exec act.proposal.choice act.proposal.content)) → WFact r.wardens r.warden s' (parcel_body b)
+      go e (inl z) = rw (z, e) (inl refl)
+      go e (inr z) = rw (to_client_body act.exec (Decide act.exec act.proposal.choice act.proposal.content) b z, e) (inl refl)
+  ward_new (Begins_truncation act) b i = only _ act.sends tt b i
+  ward_new (Counts_fenced act) b i = absurd (rw act.silent at i)
+  ward_new (Ends_truncation act) b i = only _ act.sends tt b i
 
 pub wardens_positive : (k n : ℕ) → in_range k n ≡ true → 0 < n
 wardens_positive k n e = let a = lt_is 0 k (and_left _ _ e) in let b = le_is k n (and_right (nat_lt 0 k) _ e) in omega (arith, a, b)
