@@ -14,9 +14,6 @@ on_map a known m = run map_answer a known m
 pub same_map : (m : List Entry) → HoldTheSame m m
 same_map m = record { each = λ k. refl }
 
-pub same_trans : (m n o : List Entry) → HoldTheSame m n → HoldTheSame n o → HoldTheSame m o
-same_trans m n o h i = record { each = λ k. h.each k ∙ i.each k }
-
 module _ (m n : List Entry) (same : HoldTheSame m n) where
   read_same : (shown : Option ℤ) (k : Key) (known : List Entry) (next : ℤ → Actions) → ((x : ℤ) (known : List Entry) → on_map (next x) known m ≡ on_map (next x) known n) →
       read_by shown (map_answer m k) k known m (λ x known m. on_map (next x) known m) ≡ read_by shown (map_answer n k) k known n (λ x known m. on_map (next x) known m)

@@ -7,10 +7,10 @@ use Rattle.txn_text.specs.declared.faults.TextFault.{TextFault}
 use Rattle.txn_parse.specs.Symbols.{Lexeme, lexemes}
 use Rattle.txn_parse.specs.Tree.{Commands, End}
 use Rattle.txn_parse.specs.Grammar.{Free, Within, IsBlock}
-use Rattle.txn_parse.specs.Reading.{Found, syntax_at, block_at}
+use Rattle.txn_parse.specs.Reading.{Found, Reader, syntax_at, block_at}
 use Rattle.txn_parse.specs.Laws.{IsFirstBad, IsOneTooMany, IsFault, FoundIsDerived, DerivedIsFound, HasOneTree, FaultIsFirst}
 use Rattle.txn_parse.proofs.LimitsLemmas.{free_block, bound_block}
-use Rattle.txn_parse.proofs.Sound.{IsBad, IsOver, Answers, SameFirst, first_of}
+use Rattle.txn_parse.proofs.Sound.{IsBad, IsOver, Answers, first_of}
 use Rattle.txn_parse.proofs.SoundBlocks.{block_answers}
 use Rattle.txn_parse.proofs.CompleteBlocks.{reads_block}
 
@@ -54,35 +54,37 @@ has_one_tree lim lim' ls b b' d d' =
     let second = read_free 0 ls [] b' (free_block d') (length ls) (length ls) (omega arith) (omega arith) in
     ap tree_of (sym first ∙ second)
 
-first_same : (rest : List Lexeme) (l : Lexeme) (more ms : List Lexeme) → rest ≡ l ∷ more → SameFirst rest (l ∷ ms)
-first_same rest l more ms is = ap first_of is
-
-differ : (last n m : ℕ) (whole again : List Lexeme) (b : Commands) (f : TextFault) → whole ≡ again → block_at last n m (whole ++ []) ≡ Ok (b, []) → block_at last n m again ≡ Err f → ⊥
-differ last n m whole again b f same read fails =
-    let read' : block_at last n m again ≡ Ok (b, []) = ap (block_at last n m) (sym same ∙ sym (append-nil whole)) ∙ read in
-    cc
-
-first_bad : (last : ℕ) (ls : List Lexeme) (f : TextFault) → IsBad last (λ (j : Wider). block_at last j.room j.depth) (IsBlock Free) ls f → IsFirstBad (IsBlock Free) last ls f
-first_bad last ls f one = record {
+-- a reader that wide limits allow finds what is in the grammar: so a bad token is the first
+pub first_bad : {A J : Type 0} (last : ℕ) (Q : J → Reader A) (H : List Lexeme → A → Type 0) → ((ls : List Lexeme) (a : A) → H ls a → (j : J) × (Q j ls ≡ Ok (a, []))) →
+    (ls : List Lexeme) (f : TextFault) → IsBad last Q H ls f → IsFirstBad H last ls f
+first_bad last Q H enough ls f one = record {
   front = one.front;
   rest = one.rest;
   split = one.split;
   place = one.place;
   begun = one.begun;
-  bad = λ l more is begun.
+  bad = λ l rest is begun.
       let whole = (one.front ++ l ∷ []) ++ begun.0 in
       let tokens : whole ≡ one.front ++ (l ∷ begun.0) = append_assoc one.front (l ∷ []) begun.0 in
-      let read = read_free last whole [] begun.1 begun.2 (LONGEST_EXPRESSION + length whole) (DEEPEST_BLOCK + length whole) (omega arith) (omega arith) in
-      let fails = one.again (record { room = LONGEST_EXPRESSION + length whole; depth = DEEPEST_BLOCK + length whole; rooms = omega arith; depths = omega arith }) (l ∷ begun.0) (first_same one.rest l more begun.0 is) in
-      differ last (LONGEST_EXPRESSION + length whole) (DEEPEST_BLOCK + length whole) whole (one.front ++ (l ∷ begun.0)) begun.1 (syntax_at last (l ∷ begun.0)) tokens read fails;
+      let read = enough whole begun.1 begun.2 in
+      let fails = one.again read.0 (l ∷ begun.0) (ap first_of is) in
+      let same = ap (Q read.0) tokens in
+      let clash : Err (syntax_at last (l ∷ begun.0)) ≡ Ok (begun.1, []) = sym fails ∙ sym same ∙ read.1 in
+      cc;
 }
+
+enough : (last : ℕ) (ls : List Lexeme) (b : Commands) → IsBlock Free ls b → (j : Wider) × (block_at last j.room j.depth ls ≡ Ok (b, []))
+unfolding wide
+enough last ls b d =
+    let j = wide ls in
+    (j, ap (block_at last j.room j.depth) (sym (append-nil ls)) ∙ read_free last ls [] b d j.room j.depth (omega arith) (omega arith))
 
 over : (ls : List Lexeme) (f : TextFault) → IsOver (IsBlock Free) ls f → IsOneTooMany (IsBlock Free) ls f
 over ls f one = record { front = one.front; token = one.l; rest = one.rest; split = one.split; place = one.place; begun = one.begun }
 
 fault_by : (last : ℕ) (ls : List Lexeme) (f : TextFault) (r : Found Commands) → r ≡ Err f → Answers last (λ (j : Wider). block_at last j.room j.depth) (IsBlock (Within LONGEST_EXPRESSION DEEPEST_BLOCK)) (IsBlock Free) ls r → IsFault (IsBlock Free) last ls f
 fault_by last ls f (Ok q) is one = cc
-fault_by last ls f (Err g) is (inl one) = let same : g ≡ f = cc in subst (IsFault (IsBlock Free) last ls) same (inl (first_bad last ls g one))
+fault_by last ls f (Err g) is (inl one) = let same : g ≡ f = cc in subst (IsFault (IsBlock Free) last ls) same (inl (first_bad last (λ (j : Wider). block_at last j.room j.depth) (IsBlock Free) (enough last) ls g one))
 fault_by last ls f (Err g) is (inr one) = let same : g ≡ f = cc in subst (IsFault (IsBlock Free) last ls) same (inr (over ls g one))
 
 pub fault_is_first : FaultIsFirst

@@ -9,3 +9,7 @@ pub mod SoundBlocks
 pub mod CompleteExpr
 pub mod CompleteBlocks
 pub mod Laws
+pub mod CountsLemmas
+pub mod OneFault
+pub mod WideLimits
+pub mod FaultIsDecided

@@ -16,10 +16,6 @@ abbrev pub with_stmts : List Command → Found Commands → Found Commands
 with_stmts cs (Ok r) = Ok (before cs r.0, r.1)
 with_stmts cs (Err e) = Err e
 
-pub with_stmts-nil : (r : Found Commands) → with_stmts [] r ≡ r
-with_stmts-nil (Ok r) = refl
-with_stmts-nil (Err e) = refl
-
 pub before_push : (cs : List Command) (c : Command) (rest : Commands) → before (cs ++ c ∷ []) rest ≡ before cs (Then c rest)
 before_push [] c rest = refl
 before_push (x ∷ cs) c rest = ap (Then x) (before_push cs c rest)
@@ -48,10 +44,6 @@ stmts_more last stmt n ls ms c is s =
 pub stmts_last : (last : ℕ) (stmt : Reader Command) (n : ℕ) (ls ms : List Lexeme) (c : Command × List Lexeme) → stmt ls ≡ Ok c → separator_at last c.1 ≡ Ok (false, ms) → stmts_at last stmt (suc n) ls ≡ Ok (Then c.0 End, ms)
 stmts_last last stmt n ls ms c is s =
     stmts_separator last stmt n ls c is ∙ ap (λ r. r >>= (λ m. cond m.0 (with_stmt c.0 (stmts_at last stmt n m.1)) (Ok (Then c.0 End, m.1)))) s
-
--- one turn of the count
-pub count_down : {A : Type 0} (f : ℕ → A) (all done : ℕ) → done ≤ all → f (all + 1 - done) ≡ f (suc (all - done))
-count_down f all done below = ap f (let e : all + 1 - done ≡ suc (all - done) = omega arith in e)
 
 -- a fault that is handed on
 pub gives_err : {X Y Z W : Type 0} (view : X → Y) (view' : Z → W) (e : TextFault) (r : Result Y TextFault) (r' : Result W TextFault) → ((f : TextFault) → r ≡ Err f → r' ≡ Err f) → Gives view (Err e) r → Gives view' (Err e) r'

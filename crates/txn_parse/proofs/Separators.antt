@@ -14,7 +14,6 @@ use Rattle.txn_parse.proofs.LimitsLemmas.{some_stmt}
 use Rattle.txn_parse.proofs.Sound.{Answers, bad_here, some_token, begins_same, ends_same}
 use Rattle.txn_parse.proofs.SoundStmts.{plain_close_block}
 
-
 -- what stands behind a statement, and whether one more follows
 pub data IsSep : List Lexeme → Bool → Type 0 where
   closes : (y : Token) → IsSep (lexeme CloseBlock y ∷ []) false

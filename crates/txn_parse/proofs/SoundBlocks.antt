@@ -16,7 +16,6 @@ use Rattle.txn_parse.proofs.ReadingLemmas.{brace_err}
 use Rattle.txn_parse.proofs.LimitsLemmas.{free_stmt, free_block}
 use Rattle.txn_parse.proofs.Sound.{Answers, found_here, bad_here, some_token, then_answers, take_then, answers_as, begins_same, ends_same}
 use Rattle.txn_parse.proofs.SoundStmts.{plain_open_block, some_block, ReadsBlocks, stmt_answers}
-
 use Rattle.txn_parse.proofs.Separators.{IsSep, separator_answers, Shrinks, shrinks, all_stmts, behind_stmt, unfold_stmts, closes, closes_behind, parts}
 
 -- statements and the closing brace

@@ -4,4 +4,6 @@ pub mod Pending
 pub mod Grammar
 pub mod Reading
 pub mod Laws
+pub mod Counts
+pub mod Faults
 pub mod Gives

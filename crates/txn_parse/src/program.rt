@@ -5,6 +5,8 @@ ghost use Rattle.txn_parse.specs.Symbols.{Lexeme, lexemes};
 ghost use Rattle.txn_parse.specs.Grammar.{Within, IsBlock};
 ghost use Rattle.txn_parse.specs.Gives.{Gives, last_line, block_of, IsBlockFault};
 ghost use Rattle.txn_parse.specs.Laws.{FoundIsDerived, DerivedIsFound, HasOneTree, FaultIsFirst};
+ghost use Rattle.txn_parse.specs.Counts.{LimitsAreCounts};
+ghost use Rattle.txn_parse.specs.Faults.{OneFault, FaultIsDecided, RefusedIsFaulty};
 
 use crate::blocks::block;
 use crate::tree::RawProg;
@@ -58,4 +60,13 @@ pub fn grammar_laws()
     ensures derived { DerivedIsFound }
     ensures one_tree { HasOneTree }
     ensures first { FaultIsFirst }
+{}
+
+/// The fault of a list of tokens, by counting and by the grammar without limits: a block is within the limits just where
+/// no token of it is past one, a list has one fault at most, and has one where no block is read of it.
+pub fn fault_laws()
+    ensures counts { LimitsAreCounts }
+    ensures one { OneFault }
+    ensures decided { FaultIsDecided }
+    ensures refused { RefusedIsFaulty }
 {}
