@@ -1,3 +1,4 @@
 pub mod TurnOrder
 pub mod QuietOrDue
 pub mod AnswersDecide
+pub mod Opening

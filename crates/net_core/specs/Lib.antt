@@ -3,3 +3,4 @@ pub mod Marks
 pub mod Rounds
 pub mod Fair
 pub mod Laws
+pub mod Mail

@@ -1,13 +1,20 @@
 //! What a journal of events says, over any machine that replays it: whose turn it is, who is marked, how a run ends and
 //! which pick is fair. A machine is told by what it answers after each history of events; nothing here knows the protocol.
+//! And the mail, which keeps each envelope as its frame.
 //!
 //! Read `specs/Machine`, then `Marks` (picks, turns, marks, ends), `Rounds` (whose turn it is), `Fair` (which pick) and
 //! `Laws`. Looked at in the order of turns the nodes are still the same nodes (`proofs/TurnOrder`), so that nobody is due
 //! just where each of them rests (`QuietOrDue`). And each word of these files asks its machine of its own nodes at the
 //! moments of the history alone, so that two machines which answer those alike say the same (`AnswersDecide`).
+//!
+//! Apart from these stands the mail: what is kept of an envelope opens to it (`specs/Mail`, `proofs/Opening`).
 #![tactic(auto)]
 
 ghost use Rattle.net_core.specs.Laws.{QuietOrDue, AnswersDecide, FairRunsAgree};
+
+mod mail;
+
+pub use mail::Mail;
 
 /// No node is due exactly where the history is quiet.
 pub fn quiet_or_due()
