@@ -1,10 +1,9 @@
-//! Tests over several crates: the top call over memory, the texts of rows, and copies of messages.
+//! Tests over several crates, by their public calls alone: the top call over memory, and the texts of rows. Nothing
+//! stands on this crate.
 #![tactic(auto)]
 
 #[cfg(test)]
 mod fixture;
-#[cfg(test)]
-mod messages;
 #[cfg(test)]
 mod tests;
 #[cfg(test)]

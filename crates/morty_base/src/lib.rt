@@ -1,4 +1,10 @@
-//! The names that every layer of the store uses, with their orders, and a list that contracts see as its items.
+//! The names that every layer of the store uses, with their orders, a list that contracts see as its items, and counts
+//! that only contracts see.
+//!
+//! Read `specs/Names` first: the tests by which names are compared. `specs/Orders` says what it means that a test orders
+//! a type or tells equality; `laws` promises it of each name, and that the derived `<` and `==` are those tests. The
+//! code compares by `comparisons` alone. `proofs/Orders` has the orders, and `proofs/Unstored` how a count that takes no
+//! bytes is stored. `specs/formers` lets a type lead back to itself through a list.
 #![tactic(auto)]
 
 mod comparisons;

@@ -75,29 +75,3 @@ impl<L: Ledger> Drop for Steps<L> {
 }
 
 const _: () = prove!(size_of::<Steps<()>>() == 0);
-
-#[cfg(test)]
-mod tests {
-    use super::*;
-    use std::thread::join;
-
-    struct Asked;
-
-    impl Ledger for Asked {}
-
-    fn tick_twice<L: Ledger>(mut steps: Steps<L>) -> Steps<L>
-        ensures { result ≡ steps + 2 }
-    {
-        steps.tick();
-        steps.tick();
-        steps
-    }
-
-    // Two ledgers, each counted in a thread of its own.
-    #[test]
-    fn counts_in_threads(rt: HostRuntime) {
-        let unread = Steps::<()>::new();
-        let asked = Steps::<Asked>::new();
-        let (_, _) = join(&rt, move || tick_twice(unread), move || tick_twice(asked));
-    }
-}

@@ -1,4 +1,8 @@
 //! Whole bytes in and out, over sources and sinks that count their faults.
+//!
+//! Read `traits` first: what a source gives and a sink takes in one call. `specs/Bytes` says how the bytes left and taken
+//! move, where they are told, `specs/Faults` that a count of faults rose, and `specs/Memory` what a source and a sink in
+//! memory stand for. `whole` is what callers use. The proofs: `Moved` adds up what one call after another moved.
 #![tactic(auto)]
 
 mod calls;
@@ -16,6 +20,3 @@ pub use std_sink::StdSink;
 pub use std_source::StdSource;
 pub use traits::{Failed, Sink, Source};
 pub use whole::{ReadEnd, WriteFault, read_whole, write_whole};
-
-#[cfg(test)]
-mod tests;

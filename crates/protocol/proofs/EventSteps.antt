@@ -1,3 +1,4 @@
+-- What an event can have done: it stands still, or one client, one replica or one warden takes one step.
 use Rattle.std.proofs.Common.{◌≡◌, ℕ, inl, inr, refl, ap, sym, ◌∙◌, subst, true, false, Bool, List, [], ◌∷◌, ◌++◌, Option, Some, None, length}
 use Rattle.std.specs.Prelude.{cond, option_map, zero, suc, nat_le, ◌+◌}
 use Rattle.std.proofs.lemmas.List.{append-nil}

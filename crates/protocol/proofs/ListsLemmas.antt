@@ -1,3 +1,4 @@
+-- What is in a list that is joined, mapped or filtered, and a function with another value at one place.
 use Rattle.std.specs.List.{list_all}
 use Rattle.std.proofs.Common.{ap, ◌∙◌, subst, ◌≡◌, ℕ, ◌⊎◌, ◌≢◌, inl, inr, refl, true, false, Bool, cond, List, [], ◌∷◌, ◌++◌, arith}
 use Rattle.std.specs.Prelude.{flat_map, map, ◌==◌}

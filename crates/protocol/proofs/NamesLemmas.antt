@@ -1,23 +1,15 @@
+-- What the tests of names tell, of versions, executions, write names and keys.
 use Rattle.std.proofs.Common.{◌≡◌, ◌≤◌, ◌⊎◌, ◌≢◌, inl, inr, ap, sym, ◌∙◌, true, false, arith}
 use Rattle.std.specs.Prelude.{◌==◌, ◌&&◌}
 use Rattle.std.proofs.lemmas.Bool.Decides.{nat_tests, Decides-int_eq}
 use Rattle.std.proofs.lemmas.Int.{ints}
 use Rattle.protocol.specs.Words.{Key, Wid, no_version, before, IsBefore, IsUpTo, same_exec, same_version, same_key, key_before, same_wid, wid_before, Version, Exec}
+pub use Rattle.morty_base.proofs.Orders.{same_exec_tells, same_version_tells}
 use Rattle.protocol.proofs.TestLemmas.{and_left, and_right, eqb_is}
 
 pub before_tells : (a b : Version) → ((before a b ≡ true) × IsBefore a b) ⊎ ((before a b ≡ false) × IsUpTo b a)
 unfolding before
 before_tells a b = grind (arith, nat_tests)
-
-pub versions_total : (a b : Version) → IsBefore a b ⊎ (a ≡ b) ⊎ IsBefore b a
-versions_total a b = grind arith
-
-pub versions_transitive : (a b c : Version) → IsBefore a b → IsBefore b c → IsBefore a c
-versions_transitive a b c p q = grind arith
-
-pub same_exec_tells : (x y : Exec) → ((same_exec x y ≡ true) × (x ≡ y)) ⊎ ((same_exec x y ≡ false) × (x ≢ y))
-unfolding same_exec
-same_exec_tells x y = grind (arith, nat_tests)
 
 pub same_exec_refl : (x : Exec) → same_exec x x ≡ true
 unfolding same_exec
@@ -29,10 +21,6 @@ exec_is x y e = elim (same_exec_tells x y) [ inl p ↦ p.1 | inr p ↦ absurd (t
     true_false : true ≡ false → ⊥
     true_false e = cc
 
-pub same_version_tells : (x y : Version) → ((same_version x y ≡ true) × (x ≡ y)) ⊎ ((same_version x y ≡ false) × (x ≢ y))
-unfolding same_version
-same_version_tells x y = grind (arith, nat_tests)
-
 pub version_is : (x y : Version) → same_version x y ≡ true → x ≡ y
 version_is x y e = elim (same_version_tells x y) [ inl p ↦ p.1 | inr p ↦ absurd (true_false (sym e ∙ p.0)) ]
   where
@@ -42,14 +30,6 @@ version_is x y e = elim (same_version_tells x y) [ inl p ↦ p.1 | inr p ↦ abs
 pub is_before : (a b : Version) → before a b ≡ true → IsBefore a b
 unfolding before
 is_before a b e = grind (arith, nat_tests)
-
-pub is_up_to : (a b : Version) → before b a ≡ false → IsUpTo a b
-unfolding before
-is_up_to a b e = grind (arith, nat_tests)
-
-pub before_true : (a b : Version) → IsBefore a b → before a b ≡ true
-unfolding before
-before_true a b e = grind (arith, nat_tests)
 
 pub before_false : (a b : Version) → IsUpTo a b → before b a ≡ false
 unfolding before

@@ -1,3 +1,4 @@
+-- Two quorums share a replica, since the lists of both have more elements than there are replicas.
 use Rattle.std.proofs.Common.{ap, refl, sym, subst, [], ◌∷◌, ◌<◌, ◌≤◌}
 use Rattle.std.specs.Prelude.{map, suc}
 use Rattle.protocol.proofs.ListsLemmas.{IsIn-map}

@@ -1,3 +1,4 @@
+-- What a replica said or knew stays when it takes one more envelope.
 use Rattle.std.proofs.Common.{◌≡◌, ◌≤◌, ◌⊎◌, ◌≢◌, inl, inr, refl, true, false, Bool, cond, List, ◌∷◌, ◌++◌, Some, arith}
 use Rattle.std.specs.Option.{is_none}
 use Rattle.protocol.specs.Words.{Version, Exec, Envelope, Body, Choice, Prepare, before, IsBefore, IsUpTo, same_exec, Vote}

@@ -1,5 +1,5 @@
-pub mod Turns
-pub mod Places
-pub mod Steps
-pub mod Hearing
-pub mod Unasked
+pub mod RoundLemmas
+pub mod StateLemmas
+pub mod HearingLemmas
+pub mod RecovererLemmas
+pub mod KeepsTruncations

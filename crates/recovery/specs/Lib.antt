@@ -1,3 +1,5 @@
+-- Read in this order.
 pub mod Phase
-pub mod Turns
+pub mod Round
+pub mod Recoverer
 pub mod Laws

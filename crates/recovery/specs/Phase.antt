@@ -1,8 +1,8 @@
 -- What a phase says of its view.
 use Rattle.std.specs.Prelude.{ℕ, List, [], Option, Some, None}
 use Rattle.protocol.specs.Warden.State.{Proposal}
-use Rattle.recovery.specs.declared.rounds.Phase.{Phase}
-use Rattle.recovery.specs.declared.rounds.Phase.TheVariants.{Asking, Proposed}
+use Rattle.recovery.specs.declared.round.Phase.{Phase}
+use Rattle.recovery.specs.declared.round.Phase.TheVariants.{Asking, Proposed}
 
 -- the proposal, once the choice is fixed
 abbrev pub proposal_in : Phase → Option Proposal

@@ -1,15 +1,21 @@
 //! How a warden recovers an execution whose client is silent: single-decree consensus in numbered views.
+//!
+//! What a warden does is `recover` and `recovery_hears` of `protocol`. Read `specs` in this order: `Phase` and `Round` say
+//! how far a view has come and what counts in it, `Recoverer` what contracts see and that a call takes such a turn, and
+//! `Laws` that truncations stand apart. The code goes the same way: `proposal` and `round`, `decision`, `state`, where a
+//! warden hears, and `recoverer`, the public type, which is broken once memory was refused. The proofs follow it:
+//! `RoundLemmas` finds a round and writes it back, `StateLemmas` and `HearingLemmas` show that each end of a handling
+//! is the turn of the definitions, `RecovererLemmas` that a view is left for what was not asked about, and
+//! `KeepsTruncations` proves the law.
 #![tactic(auto)]
 
+mod decision;
 mod laws;
 mod proposal;
 mod recoverer;
-mod rounds;
-mod send;
+mod round;
+mod rules;
 mod state;
 
 pub use laws::recovery_keeps_truncations;
 pub use recoverer::Recoverer;
-
-#[cfg(test)]
-mod tests;

@@ -3,9 +3,9 @@ ghost use Rattle.std.specs.Option.{option_copied};
 ghost use Rattle.protocol.specs.Warden.Recovery.{recover, recovery_hears};
 ghost use Rattle.protocol.specs.Warden.Truncation.{is_recovering};
 ghost use Rattle.protocol.specs.Warden.State.{decision_on, fresh_warden};
-ghost use Rattle.recovery.specs.Turns.{Does, can_recover, decided_choice, decided_content};
+ghost use Rattle.recovery.specs.Recoverer.{Does, can_recover, decided_choice, decided_content};
 
-use crate::send::Rules;
+use crate::rules::Rules;
 use crate::state::State;
 use morty_base::{Exec, List, NoMemory};
 use msg::{Choice, Content, Envelope};
@@ -23,7 +23,7 @@ pub struct Recoverer {
 
 impl Model for Recoverer {
     ghost use Rattle.std.specs.Prelude.{◌<◌, ◌^◌};
-    ghost use Rattle.recovery.specs.Turns.{RecoveringWarden};
+    ghost use Rattle.recovery.specs.Recoverer.{RecoveringWarden};
 
     ghost Value = { RecoveringWarden };
 

@@ -6,11 +6,13 @@ ghost use Rattle.protocol.specs.Warden.Truncation.{is_recovering};
 ghost use Rattle.protocol.specs.Warden.State.{decision_on, fresh_warden};
 ghost use Rattle.protocol.specs.Warden.State.Parcel.{To_all};
 ghost use Rattle.protocol.specs.World.Events.{parcel};
-ghost use Rattle.recovery.specs.Turns.{TakesTurn};
+ghost use Rattle.recovery.specs.Round.{last_view};
+ghost use Rattle.recovery.specs.Recoverer.{TakesTurn};
 
+use crate::decision::{Decision, decision_on};
 use crate::proposal::{Proposal, Told, fixed};
-use crate::rounds::{Decision, Round, decision_on, next_view, round_at};
-use crate::send::Rules;
+use crate::round::{Round, next_view, round_at};
+use crate::rules::Rules;
 use morty_base::{Exec, List, NoMemory};
 use msg::{Body, Envelope, copy_content};
 use std::alloc::Global;
@@ -59,7 +61,7 @@ impl State {
     /// The next view for an execution, where it is not past all views.
     pub fn next_view(&self, rules: &Rules, exec: Exec) -> Option<u32>
         ensures { MatchOption result
-            (4294967295 < next_view rules.now self.now exec)
+            (last_view < next_view rules.now self.now exec)
             (λ view. view ≡ next_view rules.now self.now exec) }
     {
         next_view(&self.rounds, rules.warden, rules.wardens, exec)

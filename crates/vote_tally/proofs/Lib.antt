@@ -1,2 +1,2 @@
-pub mod Tallies
-pub mod Rooms
+pub mod CountingLemmas
+pub mod TallyLemmas

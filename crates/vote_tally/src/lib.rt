@@ -1,17 +1,21 @@
 //! The tally of the votes on one execution: the first vote of each replica, and what these call for.
+//!
+//! Read `specs/Tally` first: what contracts see of a tally, and when its votes call for nothing. What they call for is
+//! `tally_says`, and what a hurried client proposes is `hurried`, both of `protocol`. The proofs follow: `CountingLemmas`
+//! reads the rule off the three counts that the code makes, and `TallyLemmas` shows that a first vote has room.
 #![tactic(auto)]
 
 ghost use Rattle.std.specs.Prelude.{◌≡◌, ◌<◌, ◌≤◌, ◌↔◌, ◌⊎◌, [], IsTrue, count_by, length};
 ghost use Rattle.std.specs.Bool.{OnTrue, OnFalse};
 ghost use Rattle.std.specs.List.{list_any};
-ghost use Rattle.protocol.specs.Quorums.{quorum};
 ghost use Rattle.protocol.specs.Replica.Votes.{is_commit_vote};
 ghost use Rattle.protocol.specs.Client.Counting.{is_final_vote, tally_says, hurried};
-ghost use Rattle.vote_tally.specs.Counted.{has_voted, with_vote, CallsForNothing};
+ghost use Rattle.vote_tally.specs.Tally.{has_voted, with_vote, CallsForNothing};
 
 use arrayvec::ArrayVec;
 use msg::{Choice, Vote};
 pub use protocol::TallyOut;
+use protocol::quorum;
 use std::marker::Model;
 
 /// How many replicas a tally has room for.
@@ -54,7 +58,7 @@ pub struct Tally {
 impl Model for Tally {
     ghost use Rattle.std.specs.Prelude.{◌≤◌};
     ghost use Rattle.vote_tally.specs.declared.TheConstants.{MAX_REPLICAS};
-    ghost use Rattle.vote_tally.specs.Counted.{Counted, HasFirstVotes};
+    ghost use Rattle.vote_tally.specs.Tally.{Counted, HasFirstVotes};
 
     ghost Value = { Counted };
 
@@ -77,13 +81,6 @@ fn has_final(votes: &[FirstVote]) -> bool
     ensures { result ≡ list_any (λ b. is_final_vote b.vote) votes.now }
 {
     votes.iter().any(|first| first.vote == Vote::Final)
-}
-
-// A bare majority: f + 1 of 2f + 1.
-fn quorum(replicas: u32) -> usize
-    ensures { result ≡ quorum replicas }
-{
-    replicas as usize / 2 + 1
 }
 
 // The first case of the rule that holds.

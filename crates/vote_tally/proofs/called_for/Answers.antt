@@ -1,6 +1,7 @@
+-- Each case of the code is the case of the rule on votes.
 use Rattle.std.proofs.Common.{◌≤◌, ◌<◌, ◌-◌, ◌⊎◌, inl, inr, refl, sym, length, arith}
 use Rattle.protocol.specs.Quorums.{quorum}
-use Rattle.vote_tally.proofs.Tallies.{counts, says_fast_commit, says_fast_abandon, says_commit, says_abandon, says_wait}
+use Rattle.vote_tally.proofs.CountingLemmas.{counts, says_fast_commit, says_fast_abandon, says_commit, says_abandon, says_wait}
 use Rattle.vote_tally.proofs.called_for.Goals as goal
 use Rattle.vote_tally.proofs.called_for.Goals.{else-has_others-via-then-has_others+else-commits-quorum, else-has_others-via-else-has_others}
 

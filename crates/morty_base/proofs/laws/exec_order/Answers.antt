@@ -1,3 +1,4 @@
+-- The order of executions.
 use Rattle.morty_base.proofs.Orders.{exec_before_total, same_exec_tells, exec_less}
 use Rattle.morty_base.specs.Names.{same_exec}
 use Rattle.std.proofs.Common.{refl}

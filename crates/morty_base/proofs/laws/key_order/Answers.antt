@@ -1,3 +1,4 @@
+-- The order of keys.
 use Rattle.morty_base.proofs.Orders.{key_before_total, same_key_tells, key_less}
 use Rattle.morty_base.specs.Names.{same_key}
 use Rattle.std.proofs.Common.{refl}

@@ -1,3 +1,4 @@
+-- The order of nodes.
 use Rattle.std.proofs.Common.{refl}
 use Rattle.morty_base.specs.declared.names.NodeId.TheVariants.{Client, Replica, Warden}
 use Rattle.morty_base.specs.Names.{node_before, same_node}

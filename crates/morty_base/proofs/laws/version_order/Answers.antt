@@ -1,3 +1,4 @@
+-- The order of versions.
 use Rattle.morty_base.proofs.Orders.{before_total, same_version_tells, version_less}
 use Rattle.morty_base.specs.Names.{same_version}
 use Rattle.std.proofs.Common.{refl}

@@ -1,3 +1,4 @@
+-- The order of write names.
 use Rattle.morty_base.proofs.Orders.{wid_before_total, same_wid_tells, wid_less, wid_equal}
 use Rattle.morty_base.proofs.laws.wid_order.Goals as goal
 

@@ -1,3 +1,4 @@
+-- Where the source was too long, what was read is from its front.
 use Rattle.morty_io.specs.Bytes.{IsRestOf}
 use Rattle.morty_io.proofs.Moved.{Gives-append, IfTold-from_gives}
 use Rattle.morty_io.proofs.whole.read_whole.Goals as goal

@@ -1,3 +1,4 @@
+-- What was read so far, and the measure of what may still be read.
 use Rattle.std.proofs.Common.{◌≡◌, ◌-◌, ◌+◌, ◌≤◌, length, vec_len}
 use Rattle.morty_io.specs.Bytes.{Gives}
 use Rattle.morty_io.proofs.whole.read_whole.Given as goal

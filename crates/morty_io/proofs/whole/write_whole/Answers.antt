@@ -1,3 +1,4 @@
+-- One more call takes one more piece.
 use Rattle.std.proofs.Common.{ap, length, length-drop, arith}
 use Rattle.std.proofs.lemmas.List.{take_rest}
 use Rattle.morty_io.proofs.Moved.{Takes-more}

@@ -1,3 +1,4 @@
+-- What was written so far, and the measure of what is left.
 use Rattle.std.proofs.Common.{length, take, ◌-◌, ◌≤◌}
 use Rattle.morty_io.specs.Bytes.{Takes}
 use Rattle.morty_io.proofs.whole.write_whole.Given as goal

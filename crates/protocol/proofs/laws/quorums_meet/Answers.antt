@@ -1,3 +1,4 @@
+-- The law as it is proved in BasicLaws.
 use Rattle.protocol.proofs.BasicLaws as proved
 use Rattle.protocol.proofs.laws.quorums_meet.Goals as goal
 

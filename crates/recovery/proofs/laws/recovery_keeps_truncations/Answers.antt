@@ -1,4 +1,5 @@
-use Rattle.recovery.proofs.Turns.{keeps_truncations}
+-- The law on truncations.
+use Rattle.recovery.proofs.KeepsTruncations.{keeps_truncations}
 use Rattle.recovery.proofs.laws.recovery_keeps_truncations.Goals as goal
 
 pub returns : goal.returns

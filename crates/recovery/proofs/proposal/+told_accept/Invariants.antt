@@ -1,3 +1,4 @@
+-- The Tolds that are left grow fewer.
 use Rattle.std.proofs.Common.{length}
 use Rattle.recovery.proofs.proposal.+told_accept.Given as goal
 

@@ -1,8 +1,9 @@
+-- A first vote has room, its tally stays one of first votes, and Wait is answered where nothing is called for.
 use Rattle.std.proofs.Common.{◌≡◌, ◌<◌, ◌≤◌, inl, inr, false, sym, ap, ◌∙◌, length, arith, lit<}
 use Rattle.protocol.specs.Client.Counting.{tally_says}
-use Rattle.vote_tally.specs.Counted.{Counted, has_voted}
-use Rattle.vote_tally.proofs.Rooms.{first_more, room_left}
-use Rattle.vote_tally.proofs.Tallies.{nothing_called_for, nothing_said}
+use Rattle.vote_tally.specs.Tally.{Counted, has_voted}
+use Rattle.vote_tally.proofs.TallyLemmas.{first_more, room_left}
+use Rattle.vote_tally.proofs.CountingLemmas.{nothing_called_for, nothing_said}
 use Rattle.vote_tally.proofs.Tally.add.Goals as goal
 
 pub push-requires : goal.push-requires

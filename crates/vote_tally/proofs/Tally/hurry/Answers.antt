@@ -1,6 +1,7 @@
+-- A hurried client proposes what a majority voted.
 use Rattle.std.proofs.Common.{◌≡◌, ◌≤◌, ◌<◌, refl, sym, arith}
 use Rattle.protocol.specs.Quorums.{quorum}
-use Rattle.vote_tally.proofs.Tallies.{counts, hurried_commit, hurried_abandon}
+use Rattle.vote_tally.proofs.CountingLemmas.{counts, hurried_commit, hurried_abandon}
 use Rattle.vote_tally.proofs.Tally.hurry.Goals as goal
 
 pub returns-then-commit_count-quorum : goal.returns-then-commit_count-quorum

@@ -1,3 +1,4 @@
+-- A read moves the front of what is left to the buffer.
 use Rattle.std.proofs.Common.{◌≡◌, ◌+◌, ◌-◌, ◌≤◌, ◌++◌, ℕ, List, length, take, drop, sym, ap, ◌∙◌, subst, length-drop, arith}
 use Rattle.std.proofs.lemmas.List.{take_rest}
 use Rattle.morty_io.specs.Memory.{MemSourceState}

@@ -1,7 +1,8 @@
+-- What was not asked about can be recovered.
 use Rattle.std.proofs.Common.{◌<◌, ◌^◌, ap, subst, sym, ◌∙◌}
 use Rattle.protocol.specs.Warden.Truncation.{is_recovering}
-use Rattle.recovery.specs.Turns.{RecoveringWarden}
-use Rattle.recovery.proofs.Unasked.{unasked_can_recover}
+use Rattle.recovery.specs.Recoverer.{RecoveringWarden}
+use Rattle.recovery.proofs.RecovererLemmas.{unasked_can_recover}
 use Rattle.recovery.proofs.recoverer.Recoverer.is_recovering.Goals as goal
 
 pub returns-clause-unasked : goal.returns-clause-unasked

@@ -1,10 +1,11 @@
+-- What is heard is what the definitions hear, body by body.
 use Rattle.std.proofs.Common.{ap, sym, subst, ◌∙◌, refl}
 use Rattle.std.proofs.lemmas.Result.{on_ok_weaker}
 use Rattle.protocol.specs.Warden.Recovery.{recovery_hears, take_told, round_of}
 use Rattle.protocol.specs.Warden.State.{WardenTurn}
-use Rattle.recovery.specs.Turns.{TakesTurn}
-use Rattle.recovery.proofs.Steps.{unmoved}
-use Rattle.recovery.proofs.Hearing.{hears_nobody, hears_decided_told, hears_decided_accepted, hears_told, hears_accepted, hears_other}
+use Rattle.recovery.specs.Recoverer.{TakesTurn}
+use Rattle.recovery.proofs.StateLemmas.{unmoved}
+use Rattle.recovery.proofs.HearingLemmas.{hears_nobody, hears_decided_told, hears_decided_accepted, hears_told, hears_accepted, hears_other}
 use Rattle.recovery.proofs.state.State.hear.Goals as goal
 
 pub returns-in_default : goal.returns-in_default

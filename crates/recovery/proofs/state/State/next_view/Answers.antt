@@ -1,4 +1,5 @@
-use Rattle.recovery.proofs.Steps.{next_view_of}
+-- The view that is left is that of the definitions.
+use Rattle.recovery.proofs.StateLemmas.{next_view_of}
 use Rattle.recovery.proofs.state.State.next_view.Goals as goal
 
 pub returns : goal.returns

@@ -1,8 +1,9 @@
+-- Asking in the next view is the turn of the definitions.
 use Rattle.std.proofs.Common.{◌∷◌, ap, sym, ◌∙◌}
 use Rattle.std.proofs.lemmas.Result.{on_ok_weaker}
 use Rattle.protocol.specs.Warden.Recovery.{next_view, recover}
 use Rattle.protocol.specs.Warden.State.{Round, WardenState}
-use Rattle.recovery.proofs.Steps.{at_state, bare, recovers}
+use Rattle.recovery.proofs.StateLemmas.{at_state, bare, recovers}
 use Rattle.recovery.proofs.state.State.recover.Goals as goal
 
 pub returns : goal.returns

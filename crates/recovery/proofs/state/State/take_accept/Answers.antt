@@ -1,11 +1,12 @@
+-- Each end of taking an Accepted is the turn of the definitions.
 use Rattle.std.proofs.Common.{subst, sym, ap, ◌∙◌, arith}
 use Rattle.std.proofs.lemmas.Result.{on_ok_weaker}
 use Rattle.protocol.specs.Warden.Recovery.{round_of, take_accept}
 use Rattle.protocol.specs.Warden.State.{WardenState}
 use Rattle.std.specs.Option.{option_copied}
-use Rattle.recovery.specs.Turns.{TakesTurn}
-use Rattle.recovery.proofs.Places.{place_by}
-use Rattle.recovery.proofs.Steps.{at_state, accept_unasked, accept_ignored, accept_counted, accept_decides}
+use Rattle.recovery.specs.Recoverer.{TakesTurn}
+use Rattle.recovery.proofs.RoundLemmas.{place_by}
+use Rattle.recovery.proofs.StateLemmas.{at_state, accept_unasked, accept_ignored, accept_counted, accept_decides}
 use Rattle.recovery.proofs.state.State.take_accept.Goals as goal
 
 pub returns-in_default : goal.returns-in_default

@@ -1,10 +1,12 @@
+-- Each end of taking a Told is the turn of the definitions.
 use Rattle.std.proofs.Common.{length, subst, sym, ap, ◌∙◌, arith}
 use Rattle.std.proofs.lemmas.Result.{on_ok_weaker}
 use Rattle.protocol.specs.Warden.Recovery.{fixed, round_of, take_told}
 use Rattle.protocol.specs.Warden.State.{ToldAnswer, WardenState}
-use Rattle.recovery.specs.Turns.{TakesTurn, counts_told}
-use Rattle.recovery.proofs.Places.{place_by}
-use Rattle.recovery.proofs.Steps.{at_state, told_unasked, told_ignored, told_counted, told_fixes}
+use Rattle.recovery.specs.Round.{counts_told}
+use Rattle.recovery.specs.Recoverer.{TakesTurn}
+use Rattle.recovery.proofs.RoundLemmas.{place_by}
+use Rattle.recovery.proofs.StateLemmas.{at_state, told_unasked, told_ignored, told_counted, told_fixes}
 use Rattle.recovery.proofs.state.State.take_told.Goals as goal
 
 pub returns-in_default : goal.returns-in_default

@@ -1,6 +1,0 @@
-use Rattle.std.proofs.Common.{◌≡◌, ◌++◌}
-use Rattle.protocol.specs.World.Events.{to_all}
-use Rattle.recovery.proofs.send.send_copies.Given as goal
-
-abbrev pub invariant-loop-before : goal.invariant-loop-before
-invariant-loop-before l = l.out ≡ l.initial.out ++ to_all l.before l.from l.body
