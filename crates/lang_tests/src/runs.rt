@@ -1,0 +1,103 @@
+use crate::programs::{five, pay, twice};
+use morty_base::{Ending, Key, NoMemory};
+use serial_ref::{Entry, Map, Stop, run_on_answers, run_on_map, serial};
+use std::alloc::Global;
+use std::process::Abort;
+use std::test::Fail;
+
+fn x(index: i64) -> Key {
+    Key { table: 0, index }
+}
+
+// These values at x[1], x[2] and on.
+fn cells(alloc: Global, values: &[i64]) -> Result<Map, NoMemory> {
+    let mut cells = Map::new(alloc);
+    let mut index = 0i64;
+    for value in values {
+        index = index.wrapping_add(1);
+        cells.insert(x(index), *value)?;
+    }
+    Ok(cells)
+}
+
+// The places and values of these entries of x.
+fn assert_entries(rt: &impl Abort, entries: &[Entry], wanted: &[(i64, i64)]) {
+    assert_eq!(rt; entries.len(), wanted.len());
+    for (entry, row) in entries.iter().zip(wanted) {
+        assert!(rt; entry.key == x(row.0));
+        assert_eq!(rt; entry.value, row.1);
+    }
+}
+
+#[test]
+fn sums_five_cells(rt: HostRuntime) -> Result<(), Fail> {
+    let alloc = rt.alloc();
+    let prog = five(alloc)?;
+    let (run, _) = run_on_map(alloc, &prog, cells(alloc, &[1, 2, 30, 4, 5])?)?;
+    let reads = [(1, 1), (2, 2), (3, 30), (4, 4), (5, 5)];
+    assert_entries(&rt, run.did.reads.as_slice(), &reads);
+    assert_eq!(rt; run.did.out.as_slice(), [42].as_slice());
+    assert_eq!(rt; run.did.begun, 19);
+    assert_eq!(rt; run.ending, Ending::Done);
+    Ok(())
+}
+
+#[test]
+fn gives_up_on_a_low_amount(rt: HostRuntime) -> Result<(), Fail> {
+    let alloc = rt.alloc();
+    let prog = pay(alloc)?;
+    let (run, cells) = run_on_map(alloc, &prog, cells(alloc, &[4])?)?;
+    assert_entries(&rt, run.did.reads.as_slice(), &[(1, 4)]);
+    assert_entries(&rt, run.did.writes.as_slice(), &[(2, 1)]);
+    assert_eq!(rt; run.ending, Ending::Abort);
+    assert_eq!(rt; cells.get(x(1)), 4);
+    assert_eq!(rt; cells.get(x(2)), 0);
+    Ok(())
+}
+
+#[test]
+fn asks_for_a_key_once(rt: HostRuntime) -> Result<(), Fail> {
+    let alloc = rt.alloc();
+    let prog = twice(alloc)?;
+    let asked = run_on_answers(alloc, &prog, &[])?;
+    assert_eq!(rt; asked.stop, Stop::Asks(x(1)));
+    let told = run_on_answers(alloc, &prog, &[7, 8])?;
+    assert_entries(&rt, told.did.reads.as_slice(), &[(1, 7)]);
+    assert_eq!(rt; told.did.out.as_slice(), [7].as_slice());
+    assert_eq!(rt; told.stop, Stop::Ends(Ending::Done));
+    Ok(())
+}
+
+#[test]
+fn runs_one_after_another(rt: HostRuntime) -> Result<(), Fail> {
+    let alloc = rt.alloc();
+    let first = pay(alloc)?;
+    let second = twice(alloc)?;
+    let cells = cells(alloc, &[30])?;
+    let done = serial(alloc, cells, &[&first, &second])?;
+    assert_eq!(rt; done.cells.get(x(1)), 20);
+    match done.runs.get(1) {
+        Some(run) => assert_eq!(rt; run.did.out.as_slice(), [20].as_slice()),
+        None => panic!(rt; "two programs ran"),
+    }
+    Ok(())
+}
+
+// A map with 1 at so many places of x from 0 on.
+fn ones(alloc: Global, places: i64) -> Result<Map, NoMemory> {
+    let mut cells = Map::new(alloc);
+    for index in 0..places {
+        cells.insert(x(index), 1)?;
+    }
+    Ok(cells)
+}
+
+#[test]
+fn a_great_map_is_searched(rt: HostRuntime) -> Result<(), Fail> {
+    let mut cells = ones(rt.alloc(), 300_000)?;
+    cells.insert(x(7), 5)?;
+    for (index, want) in [(0, 1), (7, 5), (299_999, 1), (300_000, 0)] {
+        assert_eq!(rt; cells.get(x(index)), want);
+    }
+    Ok(())
+}
