@@ -1,7 +1,8 @@
+-- One more value keeps the sum in range.
 use Rattle.std.proofs.Common.{arith}
 use Rattle.std.proofs.lemmas.Int.{ints, to_z-of_z}
 use Rattle.std.proofs.lemmas.List.Sums.{fold_more}
-use Rattle.report.proofs.text.value_sum.Goals as goal
+use Rattle.report.proofs.brief.value_sum.Goals as goal
 
 pub loop-row-preserved : goal.loop-row-preserved
 loop-row-preserved c = (grind (arith, ints, to_z-of_z, fold_more), omega (arith, ints), omega (arith, ints))
