@@ -16,8 +16,8 @@ use Rattle.law_safety.proofs.AgreementLaw.{agreement}
 use Rattle.law_safety.proofs.OneExecution.{one_execution}
 use Rattle.law_safety.proofs.BaseOfDrop.{base_of_drop}
 use Rattle.protocol_plans.specs.SerialOutcome.{first_map, programs_of, map_of, IsSerial}
-use Rattle.law_serial.proofs.Serial.{serial_reads}
-use Rattle.law_serial.proofs.SerialBase.{drops_are_serial}
+use Rattle.law_serial.proofs.SerialReads.{serial_reads}
+use Rattle.law_serial.proofs.DropsAreSerial.{drops_are_serial}
 use Rattle.world.specs.Rows.{rows_of, keys_of, sorted_keys}
 use Rattle.law_outcomes.specs.Outcome.{IsCorrect, IsSettled, OutcomesAreCorrect}
 

@@ -1,4 +1,4 @@
--- The base of a world is the serial map at its version, and so is that of each Drop.
+-- The base of a world is the serial map at its version.
 use Rattle.std.proofs.Common.{◌≡◌, ◌<◌, inl, inr, refl, ap, sym, ◌∙◌, subst, true, false, Bool, cond, List, [], ◌∷◌, ◌++◌, append_assoc, Option, Some}
 use Rattle.std.specs.Prelude.{not, ◌||◌, ◌&&◌, nat_lt, ℤ, pos, unwrap_or}
 use Rattle.protocol.specs.Words.{Exec, Version, Wid, Key, BaseEntry, Content, Event, Write, Prepare, before, same_key, same_version, exec_before, wid_before}
@@ -24,11 +24,10 @@ use Rattle.law_steps.proofs.Reach.From.{Begins}
 use Rattle.law_safety.specs.CommittedList.{IsRisingByExec}
 use Rattle.law_safety.proofs.BaseEntries.{entry_wid, entry_write, write_entry, rising_one}
 use Rattle.law_safety.proofs.BaseOfWorld.{base_of_world}
-use Rattle.law_safety.proofs.BaseOfDrop.{base_of_drop}
-use Rattle.protocol_plans.specs.SerialOutcome.{first_map, programs_of, map_of, upto_version, has_entry, has_kept_write, IsSerialBase}
-use Rattle.law_serial.specs.Serial.{SerialBase, DropsAreSerial}
-use Rattle.law_serial.proofs.Lookups.{latest_found, split_at, rising_after}
-use Rattle.law_serial.proofs.Serial.{listed, version_before, runs_from}
+use Rattle.protocol_plans.specs.SerialOutcome.{first_map, programs_of, map_of, upto_version, has_entry, has_kept_write}
+use Rattle.law_serial.specs.Serial.{SerialBase}
+use Rattle.law_serial.proofs.MapLemmas.{latest_found, split_at, rising_after}
+use Rattle.law_serial.proofs.SerialReads.{listed, version_before, runs_from}
 
 -- what is after an execution past a version is past it too
 past : (v : Version) (c d : Exec) → exec_before c d ≡ true → before v c.ver ≡ true → before v d.ver ≡ true
@@ -48,7 +47,8 @@ upto_front : (v : Version) (cs : List CommittedExec) → IsRisingByExec cs → (
 upto_front v [] r = ([], refl)
 upto_front v (c ∷ cs) r = go (upto_front v cs r.1) (before v c.exec.ver) refl
   where
-    go : (later : List CommittedExec) × (cs ≡ upto_version v cs ++ later) → (t : Bool) → before v c.exec.ver ≡ t → (later : List CommittedExec) × (c ∷ cs ≡ cond (not t) (c ∷ upto_version v cs) (upto_version v cs) ++ later)
+    go : (later : List CommittedExec) × (cs ≡ upto_version v cs ++ later) → (t : Bool) → before v c.exec.ver ≡ t →
+        (later : List CommittedExec) × (c ∷ cs ≡ cond (not t) (c ∷ upto_version v cs) (upto_version v cs) ++ later)
     go ih false e = (ih.0, ap (λ (l : List CommittedExec). c ∷ l) ih.1)
     go ih true e = (c ∷ cs, ap (λ (l : List CommittedExec). l ++ c ∷ cs) (sym (none_past v cs (λ d i. past v c.exec d.exec (r.0 d i) e))))
 
@@ -83,7 +83,8 @@ module _ (s : Scripted) (positive : 0 < s.replicas) (events : List Event) (v : V
   base : IsBase (replay_from (plan_of s) first_world events) v (base_at (plan_of s) (replay_from (plan_of s) first_world events) v)
   base = (base_of_world (plan_of s) positive events).holds v
 
-  front : (later : List CommittedExec) × (committed_executions (plan_of s) (replay_from (plan_of s) first_world events) ≡ upto_version v (committed_executions (plan_of s) (replay_from (plan_of s) first_world events)) ++ later)
+  front : (later : List CommittedExec) × (committed_executions (plan_of s) (replay_from (plan_of s) first_world events)
+      ≡ upto_version v (committed_executions (plan_of s) (replay_from (plan_of s) first_world events)) ++ later)
   front = upto_front v (committed_executions (plan_of s) (replay_from (plan_of s) first_world events)) (listed s positive events).rising
 
   -- a write of a listed execution at or below the version
@@ -134,7 +135,8 @@ module _ (s : Scripted) (positive : 0 < s.replicas) (events : List Event) (v : V
       ver = (entry_wid d.0.exec 1 d.0.content.writes e d.2).0
 
       rise : IsRisingByExec (k.0 ++ d.0 ∷ (k.1 ++ front.0))
-      rise = subst (λ (l : List CommittedExec). IsRisingByExec l) (front.1 ∙ ap (λ (l : List CommittedExec). l ++ front.0) k.2 ∙ append_assoc k.0 (d.0 ∷ k.1) front.0) (listed s positive events).rising
+      rise = subst (λ (l : List CommittedExec). IsRisingByExec l) (front.1 ∙ ap (λ (l : List CommittedExec). l ++ front.0) k.2
+          ∙ append_assoc k.0 (d.0 ∷ k.1) front.0) (listed s positive events).rising
 
       none : (x : CommittedExec) → IsIn x k.1 → writes_key e.key x.content.writes ≡ false
       none x h = go (writes_key e.key x.content.writes) refl
@@ -151,7 +153,8 @@ module _ (s : Scripted) (positive : 0 < s.replicas) (events : List Event) (v : V
               let up = version_before s positive events d.0 x ((listed s positive events).only d.0 (IsIn-filtered (λ (c : CommittedExec). not (before v c.exec.ver)) Executions d.0 d.1).0) ((listed s positive events).only x listed_x)
               (rising_after (λ (a b : CommittedExec). exec_before a.exec b.exec) k.0 (k.1 ++ front.0) d.0 x rise (IsIn-left x k.1 front.0 h)) in
               let w = greatest e i f.0 (written x inside f.0 f.1) (f.2 ∙ sym (key_is e.key t.0.key t.2)) in
-              absurd (true_false (sym (later_wid e.wid f.0.wid (subst (λ (a : Version). before a f.0.wid.ver ≡ true) (sym ver) (subst (λ (b : Version). before d.0.exec.ver b ≡ true) (sym (entry_wid x.exec 1 x.content.writes f.0 f.1).0) up))) ∙ w))
+              absurd (true_false (sym (later_wid e.wid f.0.wid (subst (λ (a : Version). before a f.0.wid.ver
+              ≡ true) (sym ver) (subst (λ (b : Version). before d.0.exec.ver b ≡ true) (sym (entry_wid x.exec 1 x.content.writes f.0 f.1).0) up))) ∙ w))
 
   map_is : map_of (first_map s.firsts) (upto_version v Executions) ≡ last_map (first_map s.firsts) (programs_of s (upto_version v Executions))
   map_is = (runs_from s positive events [] (upto_version v Executions) front.0 (sym front.1)).1
@@ -166,13 +169,22 @@ module _ (s : Scripted) (positive : 0 < s.replicas) (events : List Event) (v : V
       any_in (λ (c : CommittedExec). writes_key k c.content.writes) (upto_version v Executions) d.0 d.1
       (any_in (λ (z : Write). same_key k z.key) d.0.content.writes u.1.0 u.1.1 (key_moved k e.0.key u.1.0.key u.1.2 e.2))
 
+  entry_for : (k : Key) (c : CommittedExec) → IsIn c (upto_version v Executions) → (u : Write) → IsIn u c.content.writes → same_key k u.key ≡ true →
+      has_entry k (base_at (plan_of s) TheWorld v) ≡ true
+  entry_for k c i u j same =
+      let x = write_entry c.exec 1 c.content.writes u j in
+      found_for x.0 (written c i x.0 x.1) (key_moved k u.key x.0.key (sym x.2) same)
+    where
+      found_for : (x : BaseEntry) → IsWrite TheWorld v x → same_key k x.key ≡ true → has_entry k (base_at (plan_of s) TheWorld v) ≡ true
+      found_for x y e =
+          let g = base.greatest x y in
+          any_in (λ (z : BaseEntry). same_key k z.key) (base_at (plan_of s) TheWorld v) g.0 g.1 (key_moved k x.key g.0.key (sym g.2) e)
+
   kept_entry : (k : Key) → has_kept_write k (upto_version v Executions) ≡ true → has_entry k (base_at (plan_of s) TheWorld v) ≡ true
   kept_entry k h =
       let d = any_true (λ (c : CommittedExec). writes_key k c.content.writes) (upto_version v Executions) h in
       let u = any_true (λ (z : Write). same_key k z.key) d.0.content.writes d.2 in
-      let x = write_entry d.0.exec 1 d.0.content.writes u.0 u.1 in
-      let e = base.greatest x.0 (written d.0 d.1 x.0 x.1) in
-      any_in (λ (y : BaseEntry). same_key k y.key) (base_at (plan_of s) TheWorld v) e.0 e.1 (key_moved k x.0.key e.0.key (sym e.2) (key_moved k u.0.key x.0.key (sym x.2) u.2))
+      entry_for k d.0 d.1 u.0 u.1 u.2
 
   keys_same : (k : Key) → has_entry k (base_at (plan_of s) TheWorld v) ≡ has_kept_write k (upto_version v Executions)
   keys_same k = same_test (has_entry k (base_at (plan_of s) TheWorld v)) (has_kept_write k (upto_version v Executions)) (entry_kept k) (kept_entry k)
@@ -181,13 +193,6 @@ pub serial_base : SerialBase
 serial_base s positive events v = record {
   rising = (base s positive events v).rising;
   keys = keys_same s positive events v;
-  values = λ e i. ap (λ (o : Option ℤ). unwrap_or o (pos 0)) (sym (ap (λ (m : List Entry). found m e.key) (sym (map_is s positive events v)) ∙ entry_held s positive events v e i));
+  values = λ e i. ap (λ (o : Option ℤ). unwrap_or o (pos 0)) (sym (ap (λ (m : List Entry). found m e.key) (sym (map_is s positive events v))
+      ∙ entry_held s positive events v e i));
 }
-
-pub drops_are_serial : DropsAreSerial
-drops_are_serial s positive events v bs sent =
-    let same = (base_of_drop (plan_of s) positive events [] v bs sent).now in
-    record {
-      base = same;
-      serial = subst (λ (l : List BaseEntry). IsSerialBase s (upto_version v (committed_executions (plan_of s) (replay_from (plan_of s) first_world events))) l) (sym same) (serial_base s positive events v);
-    }

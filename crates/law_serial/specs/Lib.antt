@@ -1,4 +1,5 @@
-pub mod Fronts
+pub mod SureNotes
 pub mod Reads
-pub mod Programs
+pub mod PutsAreFronts
+pub mod NothingBetween
 pub mod Serial

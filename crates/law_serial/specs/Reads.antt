@@ -1,33 +1,37 @@
--- What a Note calls sure, and what lies between a read and its reader.
-use Rattle.std.specs.Prelude.{◌≡◌, ℕ, ℤ, ◌<◌, true, false, List, Option}
-use Rattle.protocol.specs.Words.{Exec, Version, Wid, Key, Replica, Envelope, BaseEntry, Content, Read, Prepare, Note, no_version, before, wid_before, Event}
+-- What a program reads, in each content that was prepared.
+use Rattle.std.specs.Prelude.{◌≡◌, ℤ, true, Option, Bool}
+use Rattle.protocol.specs.Words.{Exec, Version, Wid, Content, Read, Prepare, Note, before}
 use Rattle.protocol.specs.Lists.{IsIn}
-use Rattle.protocol.specs.Replica.Votes.{writes_key}
-use Rattle.protocol.specs.Replica.Held.{first_held}
-use Rattle.protocol.specs.Warden.Base.{entries_of}
-use Rattle.protocol.specs.World.State.{Plan, World, first_world}
-use Rattle.protocol.specs.World.Events.{replay_from}
-use Rattle.protocol.specs.World.Decided.{WasSent, Committed}
+use Rattle.protocol.specs.World.State.{Plan, World}
+use Rattle.protocol.specs.World.Decided.{WasSent}
+use Rattle.protocol.specs.Always.{AlwaysOfPrograms}
+use Rattle.law_serial.specs.SureNotes.{IsSure}
 
--- the write of the greatest write name among the writes of k in the content l of y
-pub record IsLastWrite (y : Exec) (l : Content) (k : Key) (wid : Wid) (value : ℤ) : Type 0 where
-  pub entry : IsIn (record { key = k; wid = wid; value = value }) (entries_of y 1 l.writes)
-  pub last : (e : BaseEntry) → IsIn e (entries_of y 1 l.writes) → e.key ≡ k → wid_before wid e.wid ≡ false
+-- a Note to this version told the read, and one called its write name sure
+pub record IsNoted (w : World) (v : Version) (r : Read) : Type 0 where
+  pub said : (s : Bool) × (lost : Option Wid) × WasSent w (Note v r.key r.wid r.value s lost)
+  pub sure : (value : ℤ) × (lost : Option Wid) × WasSent w (Note v r.key r.wid value true lost)
 
--- a first value, or the last write of k in a committed content
-pub data IsSure (p : Plan) (w : World) (k : Key) (wid : Wid) (value : ℤ) : Type 0 where
-  First_value : wid ≡ record { ver = no_version; eid = 0; seq = 0 } → value ≡ (first_held p.firsts k).value → IsSure p w k wid value
-  Last_write : (y : Exec) (l : Content) → Committed w y → WasSent w (Prepare y l) → IsLastWrite y l k wid value → IsSure p w k wid value
+-- the reads of each content that was prepared were told by Notes
+abbrev pub ReadsNotedOf : Plan → World → Type 0
+ReadsNotedOf p w = (x : Exec) (k : Content) (r : Read) → WasSent w (Prepare x k) → IsIn r k.reads → IsNoted w x.ver r
 
--- what a Note calls sure is a first value or the last write of a committed execution, below the reader's version
-abbrev pub SureNotes : Type 0
-SureNotes = (p : Plan) → 0 < p.replicas → (events : List Event) (e : Envelope) (r : ℕ) (v : Version) (k : Key) (wid : Wid) (value : ℤ) (lost : Option Wid) →
-    IsIn e (replay_from p first_world events).mail → e.from ≡ Replica r → e.body ≡ Note v k wid value true lost →
-    (before wid.ver v ≡ true) × IsSure p (replay_from p first_world events) k wid value
+abbrev pub ReadsNoted : Type 0
+ReadsNoted = AlwaysOfPrograms ReadsNotedOf
 
--- between the version that a committed execution read a key from and its own no committed execution writes that key
-abbrev pub NothingBetween : Type 0
-NothingBetween = (p : Plan) → 0 < p.replicas → (events : List Event) (x z : Exec) (k m : Content) (r : Read) →
-    Committed (replay_from p first_world events) x → WasSent (replay_from p first_world events) (Prepare x k) → IsIn r k.reads →
-    Committed (replay_from p first_world events) z → WasSent (replay_from p first_world events) (Prepare z m) →
-    before r.wid.ver z.ver ≡ true → before z.ver x.ver ≡ true → writes_key r.key m.writes ≡ false
+-- and their write names are those of first values or of last writes of committed executions, below their version
+abbrev pub ReadsSureOf : Plan → World → Type 0
+ReadsSureOf p w = (x : Exec) (k : Content) (r : Read) → WasSent w (Prepare x k) → IsIn r k.reads →
+    (before r.wid.ver x.ver ≡ true) × ((value : ℤ) × IsSure p w r.key r.wid value)
+
+abbrev pub ReadsSure : Type 0
+ReadsSure = AlwaysOfPrograms ReadsSureOf
+
+-- each read of a prepared content is below its version, and has the value of the write that it names: a first value, or
+-- the last write of the key in a committed execution
+abbrev pub ReadsCurrentOf : Plan → World → Type 0
+ReadsCurrentOf p w = (x : Exec) (k : Content) (r : Read) → WasSent w (Prepare x k) → IsIn r k.reads →
+    (before r.wid.ver x.ver ≡ true) × IsSure p w r.key r.wid r.value
+
+abbrev pub ReadsCurrent : Type 0
+ReadsCurrent = AlwaysOfPrograms ReadsCurrentOf

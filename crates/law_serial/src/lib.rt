@@ -1,17 +1,26 @@
-//! What executions read, toward the law that committed reads are those of a serial run.
+//! The committed executions are the serial run of their programs, and the base of each Drop is its map.
+//!
+//! The specs are the steps of one argument: read `SureNotes`, `Reads`, `PutsAreFronts`, `NothingBetween`, `Serial`.
 //!
 //! A Note tells a first value, the last write of a committed execution, or a write of a Puts, and only the last may be
-//! unsure, since what a replica holds comes from a commit, a base or a Puts (`Read`). A client's answers were told by
-//! Notes, and it prepares only once each is sure, so each read of a prepared content names a first value or a committed
-//! last write (`Labels`, `Following`, `Noted`). Its value may have come from a Puts of that execution. But what an
-//! execution puts are the first of the writes that it prepares (`Fronts`), so the value is that of the write that the read
-//! names (`Current`). And nothing committed lies between a read and its reader, since it would be in conflict with the
-//! reader (`Between`). Each content that was prepared is a replay of its program (`Replayed`).
+//! unsure, since what a replica holds comes from a commit, a base or a Puts (`SureNotes`). A client's answers were told by
+//! Notes (`AnswersLemmas`, `AnswersTold`), and it prepares only once each is sure (`ReadsNoted`), so each read of a
+//! prepared content names a first value or a committed last write (`ReadsSure`). Its value may have come from a Puts of
+//! that execution. But what an execution puts are the first of the writes that it prepares (`PutsAreFronts`), so the value
+//! is that of the write that the read names (`ReadsCurrent`). And nothing committed lies between a read and its reader,
+//! since it would be in conflict with the reader (`NothingBetween`).
+//!
+//! So the map that is left by the executions before a committed one has the value of each of its reads (`MapLemmas`). Its
+//! content is a replay of its program on those values (`ContentLemmas`), hence the serial run of the program on that map
+//! (`SerialReads`).
+//! The base of a world has the write of the greatest name of each key, which is the last one of the serial run
+//! (`SerialBase`), and each Drop that was sent carries that base (`DropsAreSerial`).
 #![tactic(auto)]
 
-ghost use Rattle.law_serial.specs.Fronts.{PutsAreFronts};
-ghost use Rattle.law_serial.specs.Reads.{SureNotes, NothingBetween};
-ghost use Rattle.law_serial.specs.Programs.{ReadsNoted, ReadsSure, ReadsCurrent};
+ghost use Rattle.law_serial.specs.PutsAreFronts.{PutsAreFronts};
+ghost use Rattle.law_serial.specs.SureNotes.{SureNotes};
+ghost use Rattle.law_serial.specs.NothingBetween.{NothingBetween};
+ghost use Rattle.law_serial.specs.Reads.{ReadsNoted, ReadsSure, ReadsCurrent};
 ghost use Rattle.law_serial.specs.Serial.{SerialReads, SerialBase, DropsAreSerial};
 
 /// What a Note calls sure is a first value, or the last write of its key in a committed execution, below the reader.

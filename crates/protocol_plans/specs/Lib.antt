@@ -1,4 +1,5 @@
 pub mod Scripted
+pub mod AlwaysOfScripts
 pub mod SerialOutcome
 pub mod Limits
 pub mod Laws

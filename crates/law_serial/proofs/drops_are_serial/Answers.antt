@@ -1,4 +1,4 @@
-use Rattle.law_serial.proofs.SerialBase as proved
+use Rattle.law_serial.proofs.DropsAreSerial as proved
 use Rattle.law_serial.proofs.drops_are_serial.Goals as goal
 
 pub returns : goal.returns

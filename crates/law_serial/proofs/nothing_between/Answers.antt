@@ -1,4 +1,4 @@
-use Rattle.law_serial.proofs.Between as proved
+use Rattle.law_serial.proofs.NothingBetween as proved
 use Rattle.law_serial.proofs.nothing_between.Goals as goal
 
 pub returns : goal.returns

@@ -1,4 +1,4 @@
-use Rattle.law_serial.proofs.Fronts as proved
+use Rattle.law_serial.proofs.PutsAreFronts as proved
 use Rattle.law_serial.proofs.puts_are_fronts.Goals as goal
 
 pub returns : goal.returns

@@ -1,4 +1,4 @@
-use Rattle.law_serial.proofs.Current as proved
+use Rattle.law_serial.proofs.ReadsCurrent as proved
 use Rattle.law_serial.proofs.reads_current.Goals as goal
 
 pub returns : goal.returns

@@ -1,4 +1,4 @@
-use Rattle.law_serial.proofs.Noted as proved
+use Rattle.law_serial.proofs.ReadsNoted as proved
 use Rattle.law_serial.proofs.reads_noted.Goals as goal
 
 pub returns : goal.returns

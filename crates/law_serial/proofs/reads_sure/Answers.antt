@@ -1,4 +1,4 @@
-use Rattle.law_serial.proofs.Noted as proved
+use Rattle.law_serial.proofs.ReadsSure as proved
 use Rattle.law_serial.proofs.reads_sure.Goals as goal
 
 pub returns : goal.returns

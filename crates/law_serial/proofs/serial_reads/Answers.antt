@@ -1,4 +1,4 @@
-use Rattle.law_serial.proofs.Serial as proved
+use Rattle.law_serial.proofs.SerialReads as proved
 use Rattle.law_serial.proofs.serial_reads.Goals as goal
 
 pub returns : goal.returns

@@ -1,4 +1,4 @@
-use Rattle.law_serial.proofs.Read as proved
+use Rattle.law_serial.proofs.SureNotes as proved
 use Rattle.law_serial.proofs.sure_notes.Goals as goal
 
 pub returns : goal.returns

@@ -1,7 +1,8 @@
+-- A client prepares only once each of its answers is sure, so Notes told what it reads.
 use Rattle.std.proofs.Common.{◌≡◌, ℕ, ℤ, ◌+◌, inl, inr, refl, sym, subst, true, false, Bool, List, [], ◌∷◌, ◌++◌, Option, Some, None, length}
 use Rattle.std.specs.Prelude.{cond, suc, not, ◌&&◌, ◌||◌, ◌-◌, ◌==◌, nat_lt, nat_le, flat_map}
 use Rattle.std.specs.List.{slice_get, list_any}
-use Rattle.protocol.specs.Words.{Exec, Version, Wid, Key, NodeId, Client, Replica, Warden, Envelope, Read, Body, Content, Vote, Choice, Abandon, ToCommit, Note, Prepare, Accepted, Decide, TooOld, Voted, before, same_exec, same_version, Event}
+use Rattle.protocol.specs.Words.{Exec, Version, Wid, Key, NodeId, Client, Warden, Envelope, Read, Body, Content, Vote, Choice, Abandon, ToCommit, Note, Prepare, Accepted, Decide, TooOld, Voted, same_exec, same_version, Event}
 use Rattle.std.specs.Bool.{then_some}
 use Rattle.protocol.specs.Lists.{IsIn}
 use Rattle.protocol.specs.Replica.Votes.{is_commit_vote}
@@ -19,12 +20,11 @@ use Rattle.protocol.specs.Client.Step.Input.{Goes, Runs, Hurries, Comes}
 use Rattle.protocol.specs.World.State.{Plan, World, first_world, rules}
 use Rattle.protocol.specs.World.Events.{replay_from, to_all, parcel}
 use Rattle.protocol.specs.World.Decided.{WasSent}
-use Rattle.law_serial.specs.Reads.{IsSure}
 use Rattle.protocol.specs.World.Premises.{IsProgramWalk, HasPrograms}
-use Rattle.law_serial.specs.Programs.{IsNoted, ReadsNoted, ReadsSure}
+use Rattle.law_serial.specs.Reads.{IsNoted, ReadsNoted}
 use Rattle.protocol.proofs.NamesLemmas.{version_is}
 use Rattle.protocol.proofs.ListsLemmas.{IsIn-left, IsIn-cases, at_cases}
-use Rattle.law_serial.proofs.Labels.{Fits}
+use Rattle.law_serial.proofs.AnswersLemmas.{Fits}
 use Rattle.protocol.specs.World.Steps.{Happens, Came}
 use Rattle.protocol.proofs.EventSteps.{always}
 use Rattle.protocol.specs.World.Steps.Happens.{Stays, Client_moves, Replica_moves, Warden_moves}
@@ -33,12 +33,10 @@ use Rattle.law_steps.proofs.Reach.From.{Begins}
 use Rattle.law_steps.proofs.SaysLemmas.{spoken}
 use Rattle.law_steps.proofs.SendingLemmas.{from_to_all, from_parcels}
 use Rattle.law_steps.proofs.ReplicaFacts.{RFact, facts_reach}
-use Rattle.law_steps.proofs.ClientFacts.{CFact, client_facts_reach}
 use Rattle.law_steps.proofs.WardenFacts.{WFact, ward_facts_reach}
-use Rattle.law_serial.proofs.Read.{sure_notes}
 use Rattle.protocol.specs.declared.TallyOut.{TallyOut}
 use Rattle.protocol.specs.declared.TallyOut.TheVariants.{Wait, FastCommit, FastAbandon, Propose}
-use Rattle.law_serial.proofs.Following.{LabelOK, AnswerOK, sent_append, sent_none, sent_puts, sent_question, W, Good, TurnOK, settle_ok, conclude_ok, sent_finalize, decide_ok, give_up_ok, note_running_ok, note_prepared_ok}
+use Rattle.law_serial.proofs.AnswersTold.{LabelOK, AnswerOK, sent_append, sent_none, sent_puts, sent_question, W, Good, TurnOK, settle_ok, conclude_ok, sent_finalize, decide_ok, give_up_ok, note_running_ok, note_prepared_ok}
 
 module _ (r : Rules) (prog : (n : ℕ) → IsProgramWalk (walk_at (slice_get r.txns n))) (w : World) where
   propose_ok : (c : ClientState) (k : Content) (votes : List CountedVote) (d : Choice) → Good r prog w c → TurnOK r prog w (propose c k votes d)
@@ -52,7 +50,8 @@ module _ (r : Rules) (prog : (n : ℕ) → IsProgramWalk (walk_at (slice_get r.t
   tally_ok c k votes (Propose d) g = propose_ok c k votes d g
   tally_ok c k votes Wait g = (g, sent_none w)
 
-  counts_vote_ok : (c : ClientState) (k : Content) (votes : List CountedVote) (x : Exec) (j : ℕ) (v : Vote) → Good r prog w c → TurnOK r prog w (counts_vote r c k votes x j v)
+  counts_vote_ok : (c : ClientState) (k : Content) (votes : List CountedVote) (x : Exec) (j : ℕ) (v : Vote) → Good r prog w c →
+      TurnOK r prog w (counts_vote r c k votes x j v)
   unfolding counts_vote
   counts_vote_ok c k votes x j v g = go (same_exec x c.exec && not (list_any (λ (b : CountedVote). b.replica == j) votes))
     where
@@ -60,7 +59,8 @@ module _ (r : Rules) (prog : (n : ℕ) → IsProgramWalk (walk_at (slice_get r.t
       go true = tally_ok c k _ _ g
       go false = (g, sent_none w)
 
-  counts_accept_ok : (c : ClientState) (k : Content) (votes : List CountedVote) (d : Choice) (accepts : List ℕ) (x : Exec) (view j : ℕ) → Good r prog w c → TurnOK r prog w (counts_accept r c k votes d accepts x view j)
+  counts_accept_ok : (c : ClientState) (k : Content) (votes : List CountedVote) (d : Choice) (accepts : List ℕ) (x : Exec) (view j : ℕ) → Good r prog w c →
+      TurnOK r prog w (counts_accept r c k votes d accepts x view j)
   unfolding counts_accept
   counts_accept_ok c k votes d accepts x view j g = go (same_exec x c.exec && ((view == 0) && not (list_any (λ i. i == j) accepts)))
     where
@@ -77,16 +77,19 @@ module _ (r : Rules) (prog : (n : ℕ) → IsProgramWalk (walk_at (slice_get r.t
   told_ok c ToCommit g = (g, sent_none w)
   told_ok c Abandon g = (g, sent_none w)
 
-  label_of : (c : ClientState) (v : Version) (k : Key) (wid : Wid) (value : ℤ) (sure : Bool) (lost : Option Wid) → WasSent w (Note v k wid value sure lost) → same_version v c.exec.ver ≡ true → LabelOK w c.exec.ver k (record { wid = wid; value = value; sure = sure })
+  label_of : (c : ClientState) (v : Version) (k : Key) (wid : Wid) (value : ℤ) (sure : Bool) (lost : Option Wid) → WasSent w (Note v k wid value sure lost) →
+      same_version v c.exec.ver ≡ true → LabelOK w c.exec.ver k (record { wid = wid; value = value; sure = sure })
   label_of c v k wid value sure lost t e =
       let s : WasSent w (Note c.exec.ver k wid value sure lost) = subst (λ (y : Version). WasSent w (Note y k wid value sure lost)) (version_is v c.exec.ver e) t in
       record { said = (sure, lost, s); sure = λ z. (value, lost, subst (λ (b : Bool). WasSent w (Note c.exec.ver k wid value b lost)) z s) }
 
-  comes_running_ok : (c : ClientState) (pending : Bool) (from : NodeId) (b : Body) → Good r prog w c → WasSent w b → TurnOK r prog w (comes_running r c pending from b)
+  comes_running_ok : (c : ClientState) (pending : Bool) (from : NodeId) (b : Body) → Good r prog w c → WasSent w b →
+      TurnOK r prog w (comes_running r c pending from b)
   unfolding comes_running
   comes_running_ok c pending from (Note v k wid value sure lost) g t = go (same_version v c.exec.ver) refl
     where
-      go : (z : Bool) → same_version v c.exec.ver ≡ z → TurnOK r prog w (turn_when z c (note_running r c pending k (record { wid = wid; value = value; sure = sure }) lost))
+      go : (z : Bool) → same_version v c.exec.ver ≡ z →
+          TurnOK r prog w (turn_when z c (note_running r c pending k (record { wid = wid; value = value; sure = sure }) lost))
       go true e = note_running_ok r prog w c pending k _ lost g (label_of c v k wid value sure lost t e)
       go false e = (g, sent_none w)
   comes_running_ok c pending from (TooOld v u) g t = go (same_version v c.exec.ver)
@@ -105,11 +108,13 @@ module _ (r : Rules) (prog : (n : ℕ) → IsProgramWalk (walk_at (slice_get r.t
   from_ok c f None g h = (g, sent_none w)
   from_ok c f (Some j) g h = h j
 
-  comes_prepared_ok : (c : ClientState) (k : Content) (votes : List CountedVote) (o : Option Choice) (accepts : List ℕ) (from : NodeId) (b : Body) → Good r prog w c → WasSent w b → TurnOK r prog w (comes_prepared r c k votes o accepts from b)
+  comes_prepared_ok : (c : ClientState) (k : Content) (votes : List CountedVote) (o : Option Choice) (accepts : List ℕ) (from : NodeId) (b : Body) →
+      Good r prog w c → WasSent w b → TurnOK r prog w (comes_prepared r c k votes o accepts from b)
   unfolding comes_prepared
   comes_prepared_ok c k votes o accepts from (Note v key wid value sure lost) g t = go (same_version v c.exec.ver) refl
     where
-      go : (z : Bool) → same_version v c.exec.ver ≡ z → TurnOK r prog w (turn_when z c (idle (note_prepared r c key (record { wid = wid; value = value; sure = sure }) lost)))
+      go : (z : Bool) → same_version v c.exec.ver ≡ z →
+          TurnOK r prog w (turn_when z c (idle (note_prepared r c key (record { wid = wid; value = value; sure = sure }) lost)))
       go true e = (note_prepared_ok r prog w c key _ lost g (label_of c v key wid value sure lost t e), sent_none w)
       go false e = (g, sent_none w)
   comes_prepared_ok c k votes o accepts from (Decide x d u) g t = go (is_warden from && same_exec x c.exec)
@@ -171,7 +176,8 @@ module _ (r : Rules) (prog : (n : ℕ) → IsProgramWalk (walk_at (slice_get r.t
   client_ok c Hurries t g o e = on_hurry_ok c c.phase t g e
   client_ok c (Comes from b) t g o e = subst (λ u. TurnOK r prog w u) (turn_is (comes r c c.phase from b) t e) (comes_ok c c.phase from b g o)
 
-fits_map : (W : List ℤ → Walk) (A B : Key → Answer → Type 0) → ((k : Key) (a : Answer) → A k a → B k a) → (pre : List ℤ) (as' : List Answer) → Fits W A pre as' → Fits W B pre as'
+fits_map : (W : List ℤ → Walk) (A B : Key → Answer → Type 0) → ((k : Key) (a : Answer) → A k a → B k a) → (pre : List ℤ) (as' : List Answer) →
+    Fits W A pre as' → Fits W B pre as'
 fits_map W A B f pre [] o = tt
 fits_map W A B f pre (a ∷ more) o = (λ k q. f k a (o.0 k q), fits_map W A B f (pre ++ a.label.value ∷ []) more o.1)
 
@@ -188,7 +194,7 @@ module _ (w w' : World) (grow : (b : Body) → WasSent w b → WasSent w' b) whe
 abbrev GoodIn : Plan → World → ℕ → ClientState → Type 0
 GoodIn p w c s = Fits (λ vs. walk_at (slice_get (rules p c).txns (s.begun - 1)) vs) (AnswerOK w s.exec.ver) [] s.answers
 
-record AllNoted (p : Plan) (w : World) : Type 0 where
+pub record AllNoted (p : Plan) (w : World) : Type 0 where
   pub reached : Reach p w
   pub clients : (c : ℕ) → GoodIn p w c (w.client c)
   pub prepared : (x : Exec) (k : Content) → WasSent w (Prepare x k) → (rd : Read) → IsIn rd k.reads → IsNoted w x.ver rd
@@ -217,7 +223,8 @@ module _ (p : Plan) (prog : HasPrograms p) (w w' : World) where
       grow b t = record { envelope = t.envelope; there = subst (λ l. IsIn t.envelope l) (sym s.mail) t.there; body = t.body }
   keeps (Client_moves s) t = record {
     reached = happens_reach p first_world w w' t.reached (Client_moves s);
-    clients = λ c. subst (λ (f : ℕ → ClientState). GoodIn p w' c (f c)) (sym s.client) (at_cases (λ (z : ClientState). GoodIn p w' c z) s.c s.turn.state w.client c
+    clients = λ c. subst (λ (f : ℕ →
+        ClientState). GoodIn p w' c (f c)) (sym s.client) (at_cases (λ (z : ClientState). GoodIn p w' c z) s.c s.turn.state w.client c
         (λ e. subst (λ j. GoodIn p w' j s.turn.state) (sym e) (good_grows (grown _ s.mail) s.c s.turn.state (turn (t.clients s.c)).0)) (good_grows (grown _ s.mail) c (w.client c) (t.clients c)));
     prepared = λ x k e rd i. elim (IsIn-cases e.envelope w.mail (flat_map (to_all p.replicas (Client s.c)) s.turn.sent) (subst (λ l. IsIn e.envelope l) s.mail e.there)) [
       | inl j ↦ noted_grows w w' (grown _ s.mail) x.ver rd (t.prepared x k (record { envelope = e.envelope; there = j; body = e.body }) rd i)
@@ -247,19 +254,8 @@ module _ (p : Plan) (prog : HasPrograms p) (w w' : World) where
     ];
   }
 
-all_noted : (p : Plan) → HasPrograms p → (events : List Event) → AllNoted p (replay_from p first_world events)
+pub all_noted : (p : Plan) → HasPrograms p → (events : List Event) → AllNoted p (replay_from p first_world events)
 all_noted p prog events = always p (AllNoted p) (λ w w' h t. keeps p prog w w' h t) first_world (record { reached = Begins; clients = λ c. tt; prepared = λ x k t. absurd t.there }) events
 
 pub reads_noted : ReadsNoted
-reads_noted p pos prog events x k r t i = (all_noted p prog events).prepared x k t r i
-
-pub reads_sure : ReadsSure
-reads_sure p pos prog events x k r t i = go (all_noted p prog events).reached ((all_noted p prog events).prepared x k t r i).sure
-  where
-    go : Reach p (replay_from p first_world events) → (value : ℤ) × (lost : Option Wid) × WasSent (replay_from p first_world events) (Note x.ver r.key r.wid value true lost) → (before r.wid.ver x.ver ≡ true) × ((value : ℤ) × IsSure p (replay_from p first_world events) r.key r.wid value)
-    go q n = by n.2.envelope.from refl
-      where
-        by : (f : NodeId) → n.2.envelope.from ≡ f → (before r.wid.ver x.ver ≡ true) × ((value : ℤ) × IsSure p (replay_from p first_world events) r.key r.wid value)
-        by (Client c) e = absurd (subst (CFact c ((replay_from p first_world events).client c)) n.2.body ((client_facts_reach p (replay_from p first_world events) q).said n.2.envelope c n.2.there e))
-        by (Warden j) e = absurd (subst (WFact p.wardens j ((replay_from p first_world events).warden j)) n.2.body ((ward_facts_reach p (replay_from p first_world events) q).said n.2.envelope j n.2.there e))
-        by (Replica j) e = let s = sure_notes p pos events n.2.envelope j x.ver r.key r.wid n.0 n.1 n.2.there e n.2.body in (s.0, (n.0, s.1))
+reads_noted p premises events x k r t i = (all_noted p premises.programs events).prepared x k t r i

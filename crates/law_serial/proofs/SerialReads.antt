@@ -11,98 +11,42 @@ use Rattle.law_steps.proofs.TakenLemmas.{cast_above_none, true_false}
 use Rattle.protocol.proofs.TestLemmas.{and_left}
 use Rattle.protocol.proofs.QuorumsLemmas.{quorums_meet}
 use Rattle.protocol.specs.Replica.Votes.{casts, writes_key}
-use Rattle.protocol.specs.Words.{Commit, wid_before, Exec, Key, Version, Wid, Ending, Read, Content, Event, BaseEntry, Prepare, no_version, before, same_version, exec_before}
+use Rattle.protocol.specs.Words.{Commit, wid_before, Exec, Version, Wid, Ending, Read, Content, Event, BaseEntry, Prepare, no_version, before, same_version, exec_before}
 use Rattle.morty_base.proofs.Orders.{before_total, exec_before_total}
-use Rattle.std.proofs.lemmas.List.Elements.{All-nil, All-cons, All-map}
-use Rattle.std.specs.Prelude.{MatchOption, ◌||◌, ◌&&◌, nat_lt, map, option_map, IsSome, IsNone, unwrap_or, pos}
-use Rattle.std.proofs.Common.{◌≡◌, ℕ, ℤ, ◌-◌, ◌<◌, inl, inr, refl, ap, sym, ◌∙◌, subst, true, false, Bool, cond, List, [], ◌∷◌, ◌++◌, append_assoc, take, length, Option, Some, None}
+use Rattle.std.proofs.lemmas.List.Elements.{All-map}
+use Rattle.std.specs.Prelude.{◌||◌, ◌&&◌, nat_lt, map, unwrap_or, pos}
+use Rattle.std.proofs.Common.{◌≡◌, ℕ, ℤ, ◌-◌, ◌<◌, inl, inr, refl, ap, sym, ◌∙◌, subst, true, false, Bool, cond, List, [], ◌∷◌, ◌++◌, append_assoc, length, Option, Some, None}
 use Rattle.std.specs.List.{slice_get, All}
-use Rattle.std.proofs.lemmas.Option.{slice_get-map}
 use Rattle.std.proofs.lemmas.List.{append-nil}
-use Rattle.morty_base.specs.declared.names.Ending.TheVariants as ending
-use Rattle.txn_lang.specs.Keys.{Entry, entry, found, held, after_writes}
+use Rattle.txn_lang.specs.Keys.{Entry, found, held, after_writes}
 use Rattle.txn_lang.specs.Runs.{Run, kept, kept_at}
-use Rattle.txn_lang.specs.Program.{Program, replay_of, serial_of, map_after, serial, last_map}
-use Rattle.txn_lang.specs.Laws.{values_of}
+use Rattle.txn_lang.specs.Program.{replay_of, serial_of, map_after, serial, last_map}
 use Rattle.txn_lang.proofs.SerialRuns.{replays_serial}
 use Rattle.txn_lang.proofs.Taking.{takes_answers}
 use Rattle.protocol.specs.Lists.{IsIn}
 use Rattle.protocol.specs.Warden.Base.{entries_of}
-use Rattle.protocol.specs.Client.State.{Txn, Walk, Attempt, Answer, values, walk_at, no_walk, reads_of, is_done}
-use Rattle.protocol.specs.World.State.{Plan, World, rules, txns_of, first_world}
+use Rattle.protocol.specs.Client.State.{Walk, Attempt, Answer, values, walk_at, reads_of, is_done}
+use Rattle.protocol.specs.World.State.{Plan, World, rules, first_world}
 use Rattle.protocol.specs.World.Events.{replay_from}
 use Rattle.protocol.specs.World.Decided.{WasSent, Committed, IsOf}
 use Rattle.protocol.specs.World.Committed.{CommittedExec, committed_executions}
-use Rattle.protocol_plans.specs.Scripted.{Start, Scripted, txn_of, plan_of, program_walk, write_of}
+use Rattle.protocol_plans.specs.Scripted.{Start, Scripted, plan_of}
 use Rattle.protocol_plans.proofs.Walking.{plans_have_programs}
 use Rattle.protocol.proofs.NamesLemmas.{version_is}
 use Rattle.protocol.proofs.ListsLemmas.{IsIn-left, IsIn-right, IsIn-cases}
 use Rattle.law_steps.proofs.Reach.{Reach, events_reach}
 use Rattle.law_steps.proofs.Reach.From.{Begins}
 use Rattle.law_safety.proofs.CommittedList.{committed_list}
-use Rattle.law_serial.specs.Reads.{IsSure, IsLastWrite}
-use Rattle.law_serial.specs.Reads.IsSure.{First_value, Last_write}
+use Rattle.law_serial.specs.SureNotes.{IsSure, IsLastWrite}
+use Rattle.law_serial.specs.SureNotes.IsSure.{First_value, Last_write}
 use Rattle.law_safety.specs.Replays.{HasReplay}
 use Rattle.law_safety.proofs.ContentsReplayed.{replayed}
-use Rattle.law_serial.proofs.Current.{reads_current}
-use Rattle.law_serial.proofs.Between.{nothing_between}
-use Rattle.protocol_plans.specs.SerialOutcome.{first_map, nth_start, start_at, add_program, programs_of, entry_read, entry_written, IsRunOf, AreRuns, map_of}
+use Rattle.law_serial.proofs.ReadsCurrent.{reads_current}
+use Rattle.law_serial.proofs.NothingBetween.{nothing_between}
+use Rattle.protocol_plans.specs.SerialOutcome.{first_map, start_at, add_program, programs_of, entry_read, entry_written, IsRunOf, AreRuns, map_of}
 use Rattle.law_serial.specs.Serial.{SerialReads}
-use Rattle.law_serial.proofs.Lookups.{first_holds, others_hold, latest_found, map_one_more, split_at, rising_before, rising_after}
-
--- what a transaction of a script does on answers
-abbrev start_walk : Option Start → List ℤ → Walk
-start_walk None vs = no_walk
-start_walk (Some t) vs = program_walk t.program vs
-
-walk_is : (s : Scripted) (c n : ℕ) (vs : List ℤ) → walk_at (slice_get (rules (plan_of s) c).txns (n - 1)) vs ≡ start_walk (start_at s c n) vs
-walk_is s c n vs = ap (λ (o : Option (List Txn)). walk_at (slice_get (txns_of o) (n - 1)) vs) (slice_get-map (map txn_of) s.clients (c - 1)) ∙ outer (slice_get s.clients (c - 1))
-  where
-    inner : (o : Option Start) → walk_at (option_map txn_of o) vs ≡ start_walk o vs
-    inner None = refl
-    inner (Some t) = refl
-
-    outer : (o : Option (List Start)) → walk_at (slice_get (txns_of (option_map (map txn_of) o)) (n - 1)) vs ≡ start_walk (nth_start n o) vs
-    outer None = refl
-    outer (Some ts) = ap (λ (o : Option Txn). walk_at o vs) (slice_get-map txn_of ts (n - 1)) ∙ inner (slice_get ts (n - 1))
-
-no_ending : (e : Ending) → no_walk.ending ≡ Some e → ⊥
-no_ending e q = cc
-
--- the reads of a content, as the run made them
-reads_are : (es : List Entry) (answers : List Answer) → values_of es ≡ take (length es) (values answers) → map entry_read (reads_of (map (λ (e : Entry). e.key) es) answers) ≡ es
-reads_are [] answers q = refl
-reads_are (e ∷ es) [] q = absurd (cc)
-reads_are (e ∷ es) (a ∷ answers) q =
-    let v : e.value ≡ a.label.value = cc in
-    let t : values_of es ≡ take (length es) (values answers) = cc in
-    ap (λ (x : ℤ). entry e.key x ∷ map entry_read (reads_of (map (λ (e : Entry). e.key) es) answers)) (sym v) ∙ ap (λ (l : List Entry). e ∷ l) (reads_are es answers t)
-
-back_and_forth : (es : List Entry) → map entry_written (map write_of es) ≡ es
-back_and_forth [] = refl
-back_and_forth (e ∷ es) = ap (λ (l : List Entry). e ∷ l) (back_and_forth es)
-
--- what a program keeps, by its ending
-kept_writes : (e : Ending) (es : List Entry) → map entry_written (cond (is_done e) (map write_of es) []) ≡ kept_at (Some e) es
-kept_writes ending.Done es = back_and_forth es
-kept_writes ending.Abort es = refl
-kept_writes ending.Overflow es = refl
-kept_writes ending.ZeroDivisor es = refl
-
-all_of : {A : Type 0} (P : A → Type 0) (xs : List A) → ((a : A) → IsIn a xs → P a) → All P xs
-all_of P [] f = All-nil P
-all_of P (x ∷ xs) f = All-cons P x xs (f x (inl refl)) (all_of P xs (λ a i. f a (inr i)))
-
--- a program that ended asks nothing
-ended_asks : (p : Program) (vs : List ℤ) (e : Ending) → (replay_of p vs).ending ≡ Some e → (replay_of p vs).asks ≡ None
-ended_asks p vs e q = go (replay_of p vs).asks refl ((takes_answers p.body (length p.names)).asks_or_ends vs)
-  where
-    no : IsNone (Some e) → ⊥
-    no h = cc
-
-    go : (o : Option Key) → (replay_of p vs).asks ≡ o → MatchOption (replay_of p vs).asks (IsSome (replay_of p vs).ending) (λ k. IsNone (replay_of p vs).ending) → (replay_of p vs).asks ≡ None
-    go None f h = f
-    go (Some k) f h = absurd (no (subst (λ (o : Option Ending). IsNone o) q (subst (λ (o : Option Key). MatchOption o (IsSome (replay_of p vs).ending) (λ k. IsNone (replay_of p vs).ending)) f h)))
+use Rattle.law_serial.proofs.MapLemmas.{first_holds, others_hold, latest_found, map_one_more, split_at, rising_before, rising_after}
+use Rattle.law_serial.proofs.ContentLemmas.{start_walk, walk_is, no_ending, reads_are, kept_writes, all_of, ended_asks}
 
 module _ (s : Scripted) (positive : 0 < s.replicas) (events : List Event) where
   abbrev ThePlan : Plan
@@ -129,14 +73,17 @@ module _ (s : Scripted) (positive : 0 < s.replicas) (events : List Event) where
       let v = (commit_needs_votes (plan_of s) positive events).decided x c in
       let m = quorums_meet s.replicas _ _ v v in
       let k = cast_found x (casts (TheWorld.replica m.0)) Commit m.1 in
-      subst (λ (y : Exec). before no_version y.ver ≡ true) k.2 (cast_above_none (TheWorld.replica m.0) (taking_reach (plan_of s) TheWorld (events_reach (plan_of s) first_world first_world Begins events) m.0) k.0 k.1)
+      subst (λ (y : Exec). before no_version y.ver
+      ≡ true) k.2 (cast_above_none (TheWorld.replica m.0) (taking_reach (plan_of s) TheWorld (events_reach (plan_of s) first_world first_world Begins events) m.0) k.0 k.1)
 
   -- of two committed executions the earlier one has an earlier version
-  pub version_before : (d c : CommittedExec) → IsCommittedAs TheWorld d → IsCommittedAs TheWorld c → exec_before d.exec c.exec ≡ true → before d.exec.ver c.exec.ver ≡ true
+  pub version_before : (d c : CommittedExec) → IsCommittedAs TheWorld d → IsCommittedAs TheWorld c → exec_before d.exec c.exec ≡ true →
+      before d.exec.ver c.exec.ver ≡ true
   unfolding exec_before
   version_before d c i j e = go (before d.exec.ver c.exec.ver) refl e
     where
-      go : (t : Bool) → before d.exec.ver c.exec.ver ≡ t → (t || (same_version d.exec.ver c.exec.ver && nat_lt d.exec.eid c.exec.eid)) ≡ true → before d.exec.ver c.exec.ver ≡ true
+      go : (t : Bool) → before d.exec.ver c.exec.ver ≡ t → (t || (same_version d.exec.ver c.exec.ver && nat_lt d.exec.eid c.exec.eid)) ≡ true →
+          before d.exec.ver c.exec.ver ≡ true
       go true f g = f
       go false f g =
           let v = version_is d.exec.ver c.exec.ver (and_left (same_version d.exec.ver c.exec.ver) _ g) in
@@ -147,7 +94,8 @@ module _ (s : Scripted) (positive : 0 < s.replicas) (events : List Event) where
           absurd (true_false (sym (subst (λ (x : Exec). exec_before x c.exec ≡ true) one e) ∙ exec_before_total.irreflexive c.exec))
 
   -- a map that the executions before leave holds the value of each read
-  holds : (earlier : List CommittedExec) (c : CommittedExec) (later : List CommittedExec) → earlier ++ c ∷ later ≡ Executions → (rd : Read) → IsIn rd c.content.reads → held (map_of Firsts earlier) rd.key ≡ rd.value
+  holds : (earlier : List CommittedExec) (c : CommittedExec) (later : List CommittedExec) → earlier ++ c ∷ later ≡ Executions → (rd : Read) →
+      IsIn rd c.content.reads → held (map_of Firsts earlier) rd.key ≡ rd.value
   holds earlier c later e rd i = go current.1
     where
       rising : IsRisingByExec (earlier ++ c ∷ later)
@@ -160,7 +108,7 @@ module _ (s : Scripted) (positive : 0 < s.replicas) (events : List Event) where
       mine = is c (IsIn-right c earlier (c ∷ later) (inl refl))
 
       current : (before rd.wid.ver c.exec.ver ≡ true) × IsSure ThePlan TheWorld rd.key rd.wid rd.value
-      current = reads_current (plan_of s) positive (plans_have_programs s).0 (plans_have_programs s).1 events c.exec c.content rd (is c (IsIn-right c earlier (c ∷ later) (inl refl))).prepared i
+      current = reads_current (plan_of s) (record { replicas = positive; programs = (plans_have_programs s).0; grow = (plans_have_programs s).1 }) events c.exec c.content rd (is c (IsIn-right c earlier (c ∷ later) (inl refl))).prepared i
 
       unwritten : (d : CommittedExec) → IsIn d earlier → before rd.wid.ver d.exec.ver ≡ true → writes_key rd.key d.content.writes ≡ false
       unwritten d j low =
@@ -174,17 +122,20 @@ module _ (s : Scripted) (positive : 0 < s.replicas) (events : List Event) where
 
       of_write : (d : CommittedExec) (value : ℤ) → value ≡ rd.value → IsIn d earlier → d.exec.ver ≡ rd.wid.ver
           → IsIn (record { key = rd.key; wid = rd.wid; value = value }) (entries_of d.exec 1 d.content.writes)
-          → ((x : BaseEntry) → IsIn x (entries_of d.exec 1 d.content.writes) → x.key ≡ rd.key → wid_before rd.wid x.wid ≡ false) → held (map_of Firsts earlier) rd.key ≡ rd.value
+          → ((x : BaseEntry) → IsIn x (entries_of d.exec 1 d.content.writes) → x.key ≡ rd.key → wid_before rd.wid x.wid ≡ false) →
+          held (map_of Firsts earlier) rd.key ≡ rd.value
       of_write d value vz j ver entry' last =
           let k = split_at d earlier j in
-          let whole : earlier ++ c ∷ later ≡ k.0 ++ d ∷ (k.1 ++ c ∷ later) = ap (λ (l : List CommittedExec). l ++ c ∷ later) k.2 ∙ append_assoc k.0 (d ∷ k.1) (c ∷ later) in
+          let whole : earlier ++ c ∷ later ≡ k.0 ++ d ∷ (k.1 ++ c ∷ later) = ap (λ (l : List CommittedExec). l ++ c ∷ later) k.2
+          ∙ append_assoc k.0 (d ∷ k.1) (c ∷ later) in
           let rise : IsRisingByExec (k.0 ++ d ∷ (k.1 ++ c ∷ later)) = subst (λ (l : List CommittedExec). IsRisingByExec l) whole rising in
           let none : (x : CommittedExec) → IsIn x k.1 → writes_key rd.key x.content.writes ≡ false = λ x h.
           let there : IsIn x earlier = subst (λ (l : List CommittedExec). IsIn x l) (sym k.2) (IsIn-right x k.0 (d ∷ k.1) (inr h)) in
           unwritten x there (subst (λ (v : Version). before v x.exec.ver ≡ true) ver
           (version_before d x (is d (IsIn-left d earlier (c ∷ later) j)) (is x (IsIn-left x earlier (c ∷ later) there))
           (rising_after (λ (a b : CommittedExec). exec_before a.exec b.exec) k.0 (k.1 ++ c ∷ later) d x rise (IsIn-left x k.1 (c ∷ later) h)))) in
-          some_held (map_of Firsts earlier) rd.value (ap (λ (l : List CommittedExec). found (map_of Firsts l) rd.key) k.2 ∙ latest_found k.0 k.1 d Firsts rd.key rd.wid value entry' last none ∙ ap Some vz)
+          some_held (map_of Firsts earlier) rd.value (ap (λ (l : List CommittedExec). found (map_of Firsts l) rd.key) k.2
+          ∙ latest_found k.0 k.1 d Firsts rd.key rd.wid value entry' last none ∙ ap Some vz)
 
       before_it : (d : CommittedExec) → IsIn d (earlier ++ c ∷ later) → before d.exec.ver c.exec.ver ≡ true → IsIn d earlier
       before_it d j low = elim (IsIn-cases d earlier (c ∷ later) j) [
@@ -199,7 +150,8 @@ module _ (s : Scripted) (positive : 0 < s.replicas) (events : List Event) where
 
       go : IsSure ThePlan TheWorld rd.key rd.wid rd.value → held (map_of Firsts earlier) rd.key ≡ rd.value
       go (First_value w v) =
-          ap (λ (o : Option ℤ). unwrap_or o (pos 0)) (others_hold earlier Firsts rd.key (λ d j. unwritten d j (subst (λ (u : Wid). before u.ver d.exec.ver ≡ true) (sym w) (above_none d.exec (is d (IsIn-left d earlier (c ∷ later) j)).committed))))
+          ap (λ (o : Option ℤ). unwrap_or o (pos 0)) (others_hold earlier Firsts rd.key (λ d j. unwritten d j (subst (λ (u : Wid). before u.ver d.exec.ver
+          ≡ true) (sym w) (above_none d.exec (is d (IsIn-left d earlier (c ∷ later) j)).committed))))
           ∙ first_holds s.firsts rd.key ∙ sym v
       go (Last_write y l committed prepared last) =
           let d = listed.all y committed in
@@ -209,7 +161,8 @@ module _ (s : Scripted) (positive : 0 < s.replicas) (events : List Event) where
           let n = entry_wid y 1 l.writes (record { key = rd.key; wid = rd.wid; value = rd.value }) last.entry in
           let ver : d.0.exec.ver ≡ rd.wid.ver = ap (λ (x : Exec). x.ver) d.2 ∙ sym n.0 in
           let top : IsLastWrite d.0.exec d.0.content rd.key rd.wid rd.value = subst (λ (x : Exec). IsLastWrite x d.0.content rd.key rd.wid rd.value) (sym d.2) (subst (λ (m : Content). IsLastWrite y m rd.key rd.wid rd.value) k last) in
-          of_write d.0 rd.value refl (before_it d.0 (subst (λ (m : List CommittedExec). IsIn d.0 m) (sym e) d.1) (subst (λ (v : Version). before v c.exec.ver ≡ true) (sym ver) current.0)) ver top.entry top.last
+          of_write d.0 rd.value refl (before_it d.0 (subst (λ (m : List CommittedExec). IsIn d.0 m) (sym e) d.1) (subst (λ (v : Version). before v c.exec.ver
+          ≡ true) (sym ver) current.0)) ver top.entry top.last
 
   -- what a committed execution did, as the replay of its program
   record Ran (c : CommittedExec) (t : Start) : Type 0 where
@@ -229,14 +182,18 @@ module _ (s : Scripted) (positive : 0 < s.replicas) (events : List Event) where
       n : h.0.txn ≡ c.txn
       n = ap (λ (a : Attempt). a.txn) (one_attempt (plan_of s) positive TheWorld (events_reach (plan_of s) first_world first_world Begins events) c.exec h.0 i.attempt h.1 i.of_attempt) ∙ sym i.txn
 
-      walk : walk_at (slice_get (rules (plan_of s) c.exec.ver.client).txns (h.0.txn - 1)) (values h.2.answers) ≡ start_walk (start_at s c.exec.ver.client c.txn) (values h.2.answers)
-      walk = ap (λ (m : ℕ). walk_at (slice_get (rules (plan_of s) c.exec.ver.client).txns (m - 1)) (values h.2.answers)) n ∙ walk_is s c.exec.ver.client c.txn (values h.2.answers)
+      walk : walk_at (slice_get (rules (plan_of s) c.exec.ver.client).txns (h.0.txn - 1)) (values h.2.answers)
+          ≡ start_walk (start_at s c.exec.ver.client c.txn) (values h.2.answers)
+      walk = ap (λ (m : ℕ). walk_at (slice_get (rules (plan_of s) c.exec.ver.client).txns (m - 1)) (values h.2.answers)) n
+          ∙ walk_is s c.exec.ver.client c.txn (values h.2.answers)
 
       go : (o : Option Start) → start_at s c.exec.ver.client c.txn ≡ o → (t : Start) × (start_at s c.exec.ver.client c.txn ≡ Some t) × Ran c t
-      go None f = absurd (no_ending h.2.ending (sym (ap (λ (w : Walk). w.ending) (walk ∙ ap (λ (o : Option Start). start_walk o (values h.2.answers)) f)) ∙ h.2.ends))
+      go None f = absurd (no_ending h.2.ending (sym (ap (λ (w : Walk). w.ending) (walk ∙ ap (λ (o : Option Start). start_walk o (values h.2.answers)) f))
+          ∙ h.2.ends))
       go (Some t) f = (t, f, did t (walk ∙ ap (λ (o : Option Start). start_walk o (values h.2.answers)) f))
         where
-          did : (t : Start) → walk_at (slice_get (rules (plan_of s) c.exec.ver.client).txns (h.0.txn - 1)) (values h.2.answers) ≡ start_walk (Some t) (values h.2.answers) → Ran c t
+          did : (t : Start) → walk_at (slice_get (rules (plan_of s) c.exec.ver.client).txns (h.0.txn - 1)) (values h.2.answers)
+              ≡ start_walk (Some t) (values h.2.answers) → Ran c t
           did t e = record {
             answers = h.2.answers;
             reads = ap (map entry_read) (h.2.reads ∙ ap (λ (w : Walk). reads_of w.keys h.2.answers) (e))
@@ -249,7 +206,8 @@ module _ (s : Scripted) (positive : 0 < s.replicas) (events : List Event) where
           }
 
   -- the serial run on the map that the executions before leave is that replay
-  serial_is : (earlier : List CommittedExec) (c : CommittedExec) (later : List CommittedExec) → earlier ++ c ∷ later ≡ Executions → (t : Start) (r : Ran c t) → serial_of t.program (map_of Firsts earlier) ≡ replay_of t.program (values r.answers)
+  serial_is : (earlier : List CommittedExec) (c : CommittedExec) (later : List CommittedExec) → earlier ++ c ∷ later ≡ Executions → (t : Start) (r : Ran c t) →
+      serial_of t.program (map_of Firsts earlier) ≡ replay_of t.program (values r.answers)
   serial_is earlier c later e t r = (replays_serial t.program.body (length t.program.names)).serialised (map_of Firsts earlier) (values r.answers)
       (ended_asks t.program (values r.answers) c.content.ending (sym r.ending))
       (subst (λ (es : List Entry). All (λ (x : Entry). held (map_of Firsts earlier) x.key ≡ x.value) es) r.reads
@@ -258,14 +216,17 @@ module _ (s : Scripted) (positive : 0 < s.replicas) (events : List Event) where
 
   -- so it is for each part of the list, on the map that the part before leaves
   pub runs_from : (earlier part later : List CommittedExec) → earlier ++ (part ++ later) ≡ Executions →
-      AreRuns part (serial (map_of Firsts earlier) (programs_of s part)) × (map_of Firsts (earlier ++ part) ≡ last_map (map_of Firsts earlier) (programs_of s part))
+      AreRuns part (serial (map_of Firsts earlier) (programs_of s part)) × (map_of Firsts (earlier ++ part)
+      ≡ last_map (map_of Firsts earlier) (programs_of s part))
   runs_from earlier [] later e = (tt, ap (λ (l : List CommittedExec). map_of Firsts l) (append-nil earlier))
   runs_from earlier (c ∷ part) later e = go (runs_from (earlier ++ c ∷ []) part later (append_assoc earlier (c ∷ []) (part ++ later) ∙ e))
       (ran c (listed.only c (subst (λ (l : List CommittedExec). IsIn c l) e (IsIn-right c earlier (c ∷ (part ++ later)) (inl refl)))))
     where
-      go : AreRuns part (serial (map_of Firsts (earlier ++ c ∷ [])) (programs_of s part)) × (map_of Firsts ((earlier ++ c ∷ []) ++ part) ≡ last_map (map_of Firsts (earlier ++ c ∷ [])) (programs_of s part)) →
+      go : AreRuns part (serial (map_of Firsts (earlier ++ c ∷ [])) (programs_of s part)) × (map_of Firsts ((earlier ++ c ∷ []) ++ part)
+          ≡ last_map (map_of Firsts (earlier ++ c ∷ [])) (programs_of s part)) →
           (t : Start) × (start_at s c.exec.ver.client c.txn ≡ Some t) × Ran c t →
-          AreRuns (c ∷ part) (serial (map_of Firsts earlier) (programs_of s (c ∷ part))) × (map_of Firsts (earlier ++ c ∷ part) ≡ last_map (map_of Firsts earlier) (programs_of s (c ∷ part)))
+          AreRuns (c ∷ part) (serial (map_of Firsts earlier) (programs_of s (c ∷ part))) × (map_of Firsts (earlier ++ c ∷ part)
+          ≡ last_map (map_of Firsts earlier) (programs_of s (c ∷ part)))
       go ih (t, f, r) =
           let same = serial_is earlier c (part ++ later) e t r in
           let left : map_of Firsts (earlier ++ c ∷ []) ≡ map_after (map_of Firsts earlier) t.program =
@@ -275,7 +236,8 @@ module _ (s : Scripted) (positive : 0 < s.replicas) (events : List Event) where
             subst (λ (m : List Entry). AreRuns part (serial m (programs_of s part))) left ih.0,
           ) in
           let last : map_of Firsts (earlier ++ c ∷ part) ≡ last_map (map_of Firsts earlier) (t.program ∷ programs_of s part) =
-          ap (λ (l : List CommittedExec). map_of Firsts l) (sym (append_assoc earlier (c ∷ []) part)) ∙ ih.1 ∙ ap (λ (m : List Entry). last_map m (programs_of s part)) left in
+          ap (λ (l : List CommittedExec). map_of Firsts l) (sym (append_assoc earlier (c ∷ []) part)) ∙ ih.1
+          ∙ ap (λ (m : List Entry). last_map m (programs_of s part)) left in
           subst (λ (o : Option Start). AreRuns (c ∷ part) (serial (map_of Firsts earlier) (add_program o (programs_of s part))) × (map_of Firsts (earlier ++ c ∷ part) ≡ last_map (map_of Firsts earlier) (add_program o (programs_of s part))))
           (sym f) (runs, last)
 

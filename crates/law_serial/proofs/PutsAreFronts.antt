@@ -21,7 +21,8 @@ use Rattle.law_steps.proofs.ExecutionsLemmas.{earlier_trans, earlier_itself}
 use Rattle.law_steps.proofs.Senders.{prepare_from}
 use Rattle.law_steps.proofs.Origin.{Origin, origin}
 use Rattle.law_steps.proofs.Origin.Origin.{Old, Of_replica, Of_client, Of_warden}
-use Rattle.law_serial.specs.Fronts.{IsFront, IsPutFirst, PutsAreFronts}
+use Rattle.txn_lang.specs.Laws.{IsFront}
+use Rattle.law_serial.specs.PutsAreFronts.{IsPutFirst, PutsAreFronts}
 
 front_itself : (ws vs : List Write) → ws ≡ vs → IsFront ws vs
 front_itself ws vs e = ([], sym e ∙ sym (append-nil ws))
@@ -64,14 +65,16 @@ client_moves p w w' (Client_acts s) c = subst (λ (f : ℕ → ClientState). (f 
 -- of each Puts: its execution is not after the one under way, and while it runs its writes begin with those that were put
 pub record Fronts (p : Plan) (w : World) : Type 0 where
   pub old : (y : Exec) (ws : List Write) → WasSent w (Puts y ws) → IsEarlier y (w.client y.ver.client).exec ⊎ (y ≡ (w.client y.ver.client).exec)
-  pub front : (y : Exec) (ws : List Write) → WasSent w (Puts y ws) → y ≡ (w.client y.ver.client).exec → IsRunning (w.client y.ver.client).phase → IsFront ws (walk (rules p y.ver.client) (w.client y.ver.client)).writes
+  pub front : (y : Exec) (ws : List Write) → WasSent w (Puts y ws) → y ≡ (w.client y.ver.client).exec → IsRunning (w.client y.ver.client).phase →
+      IsFront ws (walk (rules p y.ver.client) (w.client y.ver.client)).writes
   pub prepared : (y : Exec) (ws : List Write) (k : Content) → WasSent w (Puts y ws) → WasSent w (Prepare y k) → IsPutFirst ws k
 
 -- a Puts of this moment
 abbrev IsNow : Plan → ClientState → ℕ → Exec → List Write → Type 0
 IsNow p s c y ws = (y ≡ s.exec) × IsRunning s.phase × (ws ≡ (walk (rules p c) s).writes)
 
-module _ (p : Plan) (grow : (c n : ℕ) → WritesGrow (walk_at (slice_get (rules p c).txns n))) (w w' : World) (q : Reach p w) (st : Step p w w') (s : Fronts p w) where
+module _ (p : Plan) (grow : (c n : ℕ) →
+    WritesGrow (walk_at (slice_get (rules p c).txns n))) (w w' : World) (q : Reach p w) (st : Step p w w') (s : Fronts p w) where
   q' : Reach p w'
   q' = Next w w' q st
 
@@ -82,7 +85,8 @@ module _ (p : Plan) (grow : (c n : ℕ) → WritesGrow (walk_at (slice_get (rule
       state = ap (λ (f : ℕ → ClientState). f cs.c) cs.client ∙ at_same cs.c cs.state w.client
 
       here : IsNow p (w'.client cs.c) cs.c y ws
-      here = subst (λ (z : ClientState). IsNow p z cs.c y ws) (sym (ap (λ (f : ℕ → ClientState). f cs.c) cs.client ∙ at_same cs.c cs.state w.client)) (cs.writes.puts y ws i)
+      here = subst (λ (z : ClientState). IsNow p z cs.c y ws) (sym (ap (λ (f : ℕ → ClientState). f cs.c) cs.client
+          ∙ at_same cs.c cs.state w.client)) (cs.writes.puts y ws i)
 
       mine : y.ver.client ≡ cs.c
       mine = ap (λ (z : Exec). z.ver.client) here.0 ∙ (rec_reach p w' (Next w w' q st) cs.c).own (running_under_way (w'.client cs.c).phase here.1)
@@ -90,11 +94,15 @@ module _ (p : Plan) (grow : (c n : ℕ) → WritesGrow (walk_at (slice_get (rule
   old_step : (y : Exec) (ws : List Write) → WasSent w' (Puts y ws) → IsEarlier y (w'.client y.ver.client).exec ⊎ (y ≡ (w'.client y.ver.client).exec)
   old_step y ws t = go (origin p w w' q st _ t)
     where
-      later : IsEarlier y (w.client y.ver.client).exec ⊎ (y ≡ (w.client y.ver.client).exec) → (w'.client y.ver.client ≡ w.client y.ver.client) ⊎ Move p y.ver.client (w.client y.ver.client) (w'.client y.ver.client) → IsEarlier y (w'.client y.ver.client).exec ⊎ (y ≡ (w'.client y.ver.client).exec)
+      later : IsEarlier y (w.client y.ver.client).exec ⊎ (y ≡ (w.client y.ver.client).exec) →
+          (w'.client y.ver.client ≡ w.client y.ver.client) ⊎ Move p y.ver.client (w.client y.ver.client) (w'.client y.ver.client) →
+          IsEarlier y (w'.client y.ver.client).exec ⊎ (y ≡ (w'.client y.ver.client).exec)
       later o (inl e) = subst (λ (z : ClientState). IsEarlier y z.exec ⊎ (y ≡ z.exec)) (sym e) o
       later o (inr m) = by m.exec o
         where
-          by : ((w'.client y.ver.client).exec ≡ (w.client y.ver.client).exec) ⊎ IsEarlier (w.client y.ver.client).exec (w'.client y.ver.client).exec → IsEarlier y (w.client y.ver.client).exec ⊎ (y ≡ (w.client y.ver.client).exec) → IsEarlier y (w'.client y.ver.client).exec ⊎ (y ≡ (w'.client y.ver.client).exec)
+          by : ((w'.client y.ver.client).exec ≡ (w.client y.ver.client).exec) ⊎ IsEarlier (w.client y.ver.client).exec (w'.client y.ver.client).exec →
+              IsEarlier y (w.client y.ver.client).exec ⊎ (y ≡ (w.client y.ver.client).exec) →
+              IsEarlier y (w'.client y.ver.client).exec ⊎ (y ≡ (w'.client y.ver.client).exec)
           by (inl e) o = subst (λ (z : Exec). IsEarlier y z ⊎ (y ≡ z)) (sym e) o
           by (inr l) (inl b) = inl (earlier_trans y (w.client y.ver.client).exec (w'.client y.ver.client).exec b l)
           by (inr l) (inr e) = inl (subst (λ (z : Exec). IsEarlier z (w'.client y.ver.client).exec) (sym e) l)
@@ -107,18 +115,25 @@ module _ (p : Plan) (grow : (c n : ℕ) → WritesGrow (walk_at (slice_get (rule
 
   -- the writes of the execution under way only grow
   writes_more : (c : ℕ) → Continues (w.client c) (w'.client c) → IsFront (walk (rules p c) (w.client c)).writes (walk (rules p c) (w'.client c)).writes
-  writes_more c on = let g = (grow c ((w.client c).begun - 1)).more (values (w.client c).answers) on.more in
-      (g.0, ap (λ (n : ℕ). (walk_at (slice_get (rules p c).txns (n - 1)) (values (w'.client c).answers)).writes) on.begun ∙ ap (λ (l : List ℤ). (walk_at (slice_get (rules p c).txns ((w.client c).begun - 1)) l).writes) on.answers ∙ g.1)
+  writes_more c on = let g = (grow c ((w.client c).begun - 1)).more (values (w.client c).answers) on.more in (
+    g.0,
+    ap (λ (n : ℕ). (walk_at (slice_get (rules p c).txns (n - 1)) (values (w'.client c).answers)).writes) on.begun
+        ∙ ap (λ (l : List ℤ). (walk_at (slice_get (rules p c).txns ((w.client c).begun - 1)) l).writes) on.answers ∙ g.1,
+  )
 
-  front_step : (y : Exec) (ws : List Write) → WasSent w' (Puts y ws) → y ≡ (w'.client y.ver.client).exec → IsRunning (w'.client y.ver.client).phase → IsFront ws (walk (rules p y.ver.client) (w'.client y.ver.client)).writes
+  front_step : (y : Exec) (ws : List Write) → WasSent w' (Puts y ws) → y ≡ (w'.client y.ver.client).exec → IsRunning (w'.client y.ver.client).phase →
+      IsFront ws (walk (rules p y.ver.client) (w'.client y.ver.client)).writes
   front_step y ws t e run = go (origin p w w' q st _ t)
     where
-      not_later : IsEarlier (w.client y.ver.client).exec (w'.client y.ver.client).exec → IsEarlier y (w.client y.ver.client).exec ⊎ (y ≡ (w.client y.ver.client).exec) → ⊥
+      not_later : IsEarlier (w.client y.ver.client).exec (w'.client y.ver.client).exec →
+          IsEarlier y (w.client y.ver.client).exec ⊎ (y ≡ (w.client y.ver.client).exec) → ⊥
       not_later l (inl b) = earlier_itself y (subst (λ (z : Exec). IsEarlier y z) (sym e) (earlier_trans y (w.client y.ver.client).exec (w'.client y.ver.client).exec b l))
       not_later l (inr b) = earlier_itself y (subst (λ (z : Exec). IsEarlier y z) (sym e) (subst (λ (z : Exec). IsEarlier z (w'.client y.ver.client).exec) (sym b) l))
 
-      by : WasSent w (Puts y ws) → (w'.client y.ver.client ≡ w.client y.ver.client) ⊎ Move p y.ver.client (w.client y.ver.client) (w'.client y.ver.client) → IsFront ws (walk (rules p y.ver.client) (w'.client y.ver.client)).writes
-      by z (inl f) = subst (λ (u : ClientState). IsFront ws (walk (rules p y.ver.client) u).writes) (sym f) (s.front y ws z (subst (λ (u : ClientState). y ≡ u.exec) f e) (subst (λ (u : ClientState). IsRunning u.phase) f run))
+      by : WasSent w (Puts y ws) → (w'.client y.ver.client ≡ w.client y.ver.client) ⊎ Move p y.ver.client (w.client y.ver.client) (w'.client y.ver.client) →
+          IsFront ws (walk (rules p y.ver.client) (w'.client y.ver.client)).writes
+      by z (inl f) = subst (λ (u : ClientState). IsFront ws (walk (rules p y.ver.client) u).writes) (sym f) (s.front y ws z (subst (λ (u : ClientState). y
+          ≡ u.exec) f e) (subst (λ (u : ClientState). IsRunning u.phase) f run))
       by z (inr m) = elim (m.writes.grows run) [
         | inl on ↦ front_more ws (walk (rules p y.ver.client) (w.client y.ver.client)).writes (walk (rules p y.ver.client) (w'.client y.ver.client)).writes (s.front y ws z (e ∙ on.exec) on.running) (writes_more y.ver.client on)
         | inr l ↦ absurd (not_later l (s.old y ws z))
@@ -139,7 +154,8 @@ module _ (p : Plan) (grow : (c n : ℕ) → WritesGrow (walk_at (slice_get (rule
       fresh z (Of_warden j a i e f) = absurd f
       fresh z (Of_client cs i) = subst (λ (l : Content). IsPutFirst ws l) (sym n.2.1) (content_front (rules p cs.c) (w.client cs.c) n.2.0 ws whole)
         where
-          n : (y ≡ (w.client cs.c).exec) × IsRunning (w.client cs.c).phase × ((e : Ending) × (k ≡ content (rules p cs.c) (w.client cs.c) e) × ((walk (rules p cs.c) (w.client cs.c)).ending ≡ Some e))
+          n : (y ≡ (w.client cs.c).exec) × IsRunning (w.client cs.c).phase × ((e : Ending) × (k
+              ≡ content (rules p cs.c) (w.client cs.c) e) × ((walk (rules p cs.c) (w.client cs.c)).ending ≡ Some e))
           n = cs.writes.prepares y k i
 
           mine : y.ver.client ≡ cs.c
@@ -164,4 +180,4 @@ fronts_reach p grow _ (Next w w' q st) = let s = fronts_reach p grow w q in
     record { old = old_step p grow w w' q st s; front = front_step p grow w w' q st s; prepared = prepared_step p grow w w' q st s }
 
 pub puts_are_fronts : PutsAreFronts
-puts_are_fronts p grow events = (fronts_reach p grow (replay_from p first_world events) (events_reach p first_world first_world Begins events)).prepared
+puts_are_fronts p premises events = (fronts_reach p premises.grow (replay_from p first_world events) (events_reach p first_world first_world Begins events)).prepared

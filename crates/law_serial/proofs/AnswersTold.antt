@@ -16,11 +16,11 @@ use Rattle.protocol.specs.Client.Following.Effect.{Nothing, Sure, Follow}
 use Rattle.protocol.specs.World.State.{World}
 use Rattle.protocol.specs.World.Decided.{WasSent}
 use Rattle.protocol.specs.World.Premises.{IsProgramWalk}
-use Rattle.law_serial.specs.Programs.{IsNoted}
+use Rattle.law_serial.specs.Reads.{IsNoted}
 use Rattle.protocol.proofs.TestLemmas.{and_right}
 use Rattle.protocol.proofs.NamesLemmas.{key_is}
 use Rattle.protocol.proofs.ListsLemmas.{IsIn-cases, IsIn-one_when, all_in}
-use Rattle.law_serial.proofs.Labels.{Fits, fits_append, fits_cut, fits_set, fits_get, fits_moved, fits_changed, place_get, read_at, effect_sure}
+use Rattle.law_serial.proofs.AnswersLemmas.{Fits, fits_append, fits_cut, fits_set, fits_get, fits_moved, fits_changed, place_get, read_at, effect_sure}
 
 -- a label that Notes told
 pub record LabelOK (w : World) (v : Version) (k : Key) (l : Held) : Type 0 where
@@ -69,7 +69,8 @@ module _ (r : Rules) (prog : (n : ℕ) → IsProgramWalk (walk_at (slice_get r.t
   unfolding prepare_if_ready content
   settle_ok c sent g s = go (walk r c).ending (list_all (λ (a : Answer). a.label.sure) c.answers) refl
     where
-      noted_reads : (e : Ending) → list_all (λ (a : Answer). a.label.sure) c.answers ≡ true → (rd : Read) → IsIn rd (reads_of (walk r c).keys c.answers) → IsNoted w c.exec.ver rd
+      noted_reads : (e : Ending) → list_all (λ (a : Answer). a.label.sure) c.answers ≡ true → (rd : Read) → IsIn rd (reads_of (walk r c).keys c.answers) →
+          IsNoted w c.exec.ver rd
       noted_reads e q rd i =
           let a = read_at (walk r c).keys c.answers rd i in
           let o = fits_get (λ vs. walk_at (slice_get r.txns (c.begun - 1)) vs) (AnswerOK w c.exec.ver) [] c.answers a.place a.answer rd.key g a.found ((prog (c.begun - 1)).asked (values c.answers) a.place rd.key a.key) in
@@ -94,7 +95,8 @@ module _ (r : Rules) (prog : (n : ℕ) → IsProgramWalk (walk_at (slice_get r.t
   unfolding next_execution rewound relabelled
   next_ok c sent g s = go (list_any other_value c.answers) refl
     where
-      go : (t : Bool) → list_any other_value c.answers ≡ t → TurnOK (cond t (record { state = rewound c (cut c.answers); sent = sent }) (prepare_if_ready r (relabelled c) (sent ++ one_when (may_put (walk r (relabelled c)).ending) (Puts (next_exec c.exec) (walk r (relabelled c)).writes))))
+      go : (t : Bool) → list_any other_value c.answers ≡ t →
+          TurnOK (cond t (record { state = rewound c (cut c.answers); sent = sent }) (prepare_if_ready r (relabelled c) (sent ++ one_when (may_put (walk r (relabelled c)).ending) (Puts (next_exec c.exec) (walk r (relabelled c)).writes))))
       go true q = (fits_changed (λ vs. walk_at (slice_get r.txns (c.begun - 1)) vs) (AnswerOK w c.exec.ver) (moves_on w c.exec.ver) [] c.answers g, s)
       go false q = settle_ok (relabelled c) _ (fits_moved (λ vs. walk_at (slice_get r.txns (c.begun - 1)) vs) (AnswerOK w c.exec.ver) (moves_on w c.exec.ver) [] c.answers g q)
           (sent_append w sent _ s (sent_puts w (may_put (walk r (relabelled c)).ending) (next_exec c.exec) (walk r (relabelled c)).writes))
@@ -147,24 +149,30 @@ module _ (r : Rules) (prog : (n : ℕ) → IsProgramWalk (walk_at (slice_get r.t
       go true = (fits_cut (λ vs. walk_at (slice_get r.txns (c.begun - 1)) vs) (AnswerOK w c.exec.ver) [] c.answers i (record { label = new; next = None }) g (λ l e. fresh_answer c.exec.ver k l new n (only l e)), sent_none w)
       go false = give_up_ok c g
 
-  set_ok : (c : ClientState) (i : ℕ) (a : Answer) → Good c → (answer_at c i).label.value ≡ a.label.value → ((l : Key) → (walk_at (slice_get r.txns (c.begun - 1)) (take i (values c.answers))).asks ≡ Some l → AnswerOK w c.exec.ver l (answer_at c i) → AnswerOK w c.exec.ver l a) → Good (with_answer c i a)
+  set_ok : (c : ClientState) (i : ℕ) (a : Answer) → Good c → (answer_at c i).label.value ≡ a.label.value →
+      ((l : Key) → (walk_at (slice_get r.txns (c.begun - 1)) (take i (values c.answers))).asks ≡ Some l → AnswerOK w c.exec.ver l (answer_at c i) →
+      AnswerOK w c.exec.ver l a) → Good (with_answer c i a)
   set_ok c i a g e f = fits_set (λ vs. walk_at (slice_get r.txns (c.begun - 1)) vs) (AnswerOK w c.exec.ver) [] c.answers i a g e f
 
   -- a label that a sure Note of its write name turned sure
-  surer : (v : Version) (k l : Key) (old new : Held) → LabelOK w v k new → l ≡ k → (old.wid ≡ new.wid) × (new.sure ≡ true) → LabelOK w v l old → LabelOK w v l (surely old)
+  surer : (v : Version) (k l : Key) (old new : Held) → LabelOK w v k new → l ≡ k → (old.wid ≡ new.wid) × (new.sure ≡ true) → LabelOK w v l old →
+      LabelOK w v l (surely old)
   surer v k l old new n e f o = record {
     said = o.said;
-    sure = λ _. let h = n.sure f.1 in (h.0, h.1, subst (λ (z : Wid). WasSent w (Note v l z h.0 true h.1)) (sym f.0) (subst (λ (y : Key). WasSent w (Note v y new.wid h.0 true h.1)) (sym e) h.2));
+    sure = λ _. let h = n.sure f.1 in
+        (h.0, h.1, subst (λ (z : Wid). WasSent w (Note v l z h.0 true h.1)) (sym f.0) (subst (λ (y : Key). WasSent w (Note v y new.wid h.0 true h.1)) (sym e) h.2));
   }
 
-  follow_running_ok : (c : ClientState) (i : ℕ) (k : Key) (new : Held) (f : Effect) → Good c → LabelOK w c.exec.ver k new → Only c i k → (f ≡ Sure → ((answer_at c i).label.wid ≡ new.wid) × (new.sure ≡ true)) → TurnOK (follow_running r c i (answer_at c i) new f)
+  follow_running_ok : (c : ClientState) (i : ℕ) (k : Key) (new : Held) (f : Effect) → Good c → LabelOK w c.exec.ver k new → Only c i k →
+      (f ≡ Sure → ((answer_at c i).label.wid ≡ new.wid) × (new.sure ≡ true)) → TurnOK (follow_running r c i (answer_at c i) new f)
   unfolding follow_running
   follow_running_ok c i k new Nothing g n only h = (g, sent_none w)
   follow_running_ok c i k new Sure g n only h = settle_idle_ok _ (set_ok c i (record { label = surely (answer_at c i).label; next = None }) g refl
       (λ l e o. record { label = surer c.exec.ver k l (answer_at c i).label new n (only l e) (h refl) o.label; next = λ m z. cc }))
   follow_running_ok c i k new Follow g n only h = go (int_eq (answer_at c i).label.value new.value) refl
     where
-      go : (t : Bool) → int_eq (answer_at c i).label.value new.value ≡ t → TurnOK (cond t (prepare_if_idle r (with_answer c i (record { label = new; next = None }))) (rewind r c i new))
+      go : (t : Bool) → int_eq (answer_at c i).label.value new.value ≡ t →
+          TurnOK (cond t (prepare_if_idle r (with_answer c i (record { label = new; next = None }))) (rewind r c i new))
       go true q = settle_idle_ok _ (set_ok c i (record { label = new; next = None }) g ((Decides-int_eq (answer_at c i).label.value new.value).0 q) (λ l e o. fresh_answer c.exec.ver k l new n (only l e)))
       go false q = rewind_ok c i k new g n only
 
@@ -178,7 +186,8 @@ module _ (r : Rules) (prog : (n : ℕ) → IsProgramWalk (walk_at (slice_get r.t
       some_is : (a b : Key) → Some a ≡ Some b → a ≡ b
       some_is a b e = cc
 
-  note_at_ok : (c : ClientState) (k : Key) (new : Held) (lost : Option Wid) (o : Option ℕ) → place_of k 0 (walk r c).keys ≡ o → Good c → LabelOK w c.exec.ver k new → TurnOK (note_at r c new lost o)
+  note_at_ok : (c : ClientState) (k : Key) (new : Held) (lost : Option Wid) (o : Option ℕ) → place_of k 0 (walk r c).keys ≡ o → Good c →
+      LabelOK w c.exec.ver k new → TurnOK (note_at r c new lost o)
   unfolding note_at
   note_at_ok c k new lost None e g n = (g, sent_none w)
   note_at_ok c k new lost (Some i) e g n = follow_running_ok c i k new (effect (answer_at c i).label new lost) g n (only_at c k i e) (λ z. effect_sure (answer_at c i).label new lost z)
@@ -187,12 +196,14 @@ module _ (r : Rules) (prog : (n : ℕ) → IsProgramWalk (walk_at (slice_get r.t
   answers_is None k l e f = cc
   answers_is (Some m) k l e f = let z : m ≡ l = cc in sym z ∙ sym (key_is k m e)
 
-  note_on_ok : (c : ClientState) (k : Key) (new : Held) (lost : Option Wid) (t : Bool) → (t ≡ true → answers_question (walk r c).asks k ≡ true) → Good c → LabelOK w c.exec.ver k new → TurnOK (note_on r c k new lost t)
+  note_on_ok : (c : ClientState) (k : Key) (new : Held) (lost : Option Wid) (t : Bool) → (t ≡ true → answers_question (walk r c).asks k ≡ true) → Good c →
+      LabelOK w c.exec.ver k new → TurnOK (note_on r c k new lost t)
   unfolding note_on
   note_on_ok c k new lost true e g n = (fits_append (λ vs. walk_at (slice_get r.txns (c.begun - 1)) vs) (AnswerOK w c.exec.ver) [] c.answers (record { label = new; next = None }) g (λ l q. fresh_answer c.exec.ver k l new n (answers_is (walk r c).asks k l (e refl) q)), sent_none w)
   note_on_ok c k new lost false e g n = note_at_ok c k new lost (place_of k 0 (walk r c).keys) refl g n
 
-  pub note_running_ok : (c : ClientState) (pending : Bool) (k : Key) (new : Held) (lost : Option Wid) → Good c → LabelOK w c.exec.ver k new → TurnOK (note_running r c pending k new lost)
+  pub note_running_ok : (c : ClientState) (pending : Bool) (k : Key) (new : Held) (lost : Option Wid) → Good c → LabelOK w c.exec.ver k new →
+      TurnOK (note_running r c pending k new lost)
   unfolding note_running
   note_running_ok c pending k new lost g n = note_on_ok c k new lost (not pending && answers_question (walk r c).asks k) (λ e. and_right (not pending) _ e) g n
 
@@ -206,7 +217,8 @@ module _ (r : Rules) (prog : (n : ℕ) → IsProgramWalk (walk_at (slice_get r.t
   with_next : (v : Version) (k : Key) (a : Answer) (l : Held) → AnswerOK w v k a → LabelOK w v k l → AnswerOK w v k (record { label = a.label; next = Some l })
   with_next v k a l o n = record { label = o.label; next = λ m e. let z : l ≡ m = cc in subst (λ (y : Held). LabelOK w v k y) z n }
 
-  surely_next : (v : Version) (k : Key) (a : Answer) → AnswerOK w v k a → LabelOK w v k (surely (next_label a)) → AnswerOK w v k (record { label = a.label; next = option_map surely a.next })
+  surely_next : (v : Version) (k : Key) (a : Answer) → AnswerOK w v k a → LabelOK w v k (surely (next_label a)) →
+      AnswerOK w v k (record { label = a.label; next = option_map surely a.next })
   surely_next v k a o s = record { label = o.label; next = λ m e. go m a.next refl e }
     where
       at_next : (n : Option Held) (l : Held) → n ≡ Some l → unwrap_or n a.label ≡ l
@@ -214,19 +226,23 @@ module _ (r : Rules) (prog : (n : ℕ) → IsProgramWalk (walk_at (slice_get r.t
 
       go : (m : Held) (n : Option Held) → a.next ≡ n → option_map surely n ≡ Some m → LabelOK w v k m
       go m None q e = absurd cc
-      go m (Some l) q e = let f : surely l ≡ m = cc in subst (λ (y : Held). LabelOK w v k y) f (subst (λ (y : Held). LabelOK w v k (surely y)) (at_next a.next l q) s)
+      go m (Some l) q e = let f : surely l ≡ m = cc in
+          subst (λ (y : Held). LabelOK w v k y) f (subst (λ (y : Held). LabelOK w v k (surely y)) (at_next a.next l q) s)
 
-  follow_prepared_ok : (c : ClientState) (i : ℕ) (k : Key) (new : Held) (f : Effect) → Good c → LabelOK w c.exec.ver k new → Only c i k → (f ≡ Sure → ((next_label (answer_at c i)).wid ≡ new.wid) × (new.sure ≡ true)) → Good (follow_prepared c i (answer_at c i) new f)
+  follow_prepared_ok : (c : ClientState) (i : ℕ) (k : Key) (new : Held) (f : Effect) → Good c → LabelOK w c.exec.ver k new → Only c i k →
+      (f ≡ Sure → ((next_label (answer_at c i)).wid ≡ new.wid) × (new.sure ≡ true)) → Good (follow_prepared c i (answer_at c i) new f)
   follow_prepared_ok c i k new Nothing g n only h = g
   follow_prepared_ok c i k new Sure g n only h = set_ok c i (record { label = (answer_at c i).label; next = option_map surely (answer_at c i).next }) g refl
       (λ l e o. surely_next c.exec.ver l (answer_at c i) o (surer c.exec.ver k l (next_label (answer_at c i)) new n (only l e) (h refl) (next_is c.exec.ver l (answer_at c i) o)))
   follow_prepared_ok c i k new Follow g n only h = set_ok c i (record { label = (answer_at c i).label; next = Some new }) g refl
       (λ l e o. with_next c.exec.ver l (answer_at c i) new o (subst (λ (y : Key). LabelOK w c.exec.ver y new) (sym (only l e)) n))
 
-  pub note_prepared_ok : (c : ClientState) (k : Key) (new : Held) (lost : Option Wid) → Good c → LabelOK w c.exec.ver k new → Good (note_prepared r c k new lost)
+  pub note_prepared_ok : (c : ClientState) (k : Key) (new : Held) (lost : Option Wid) → Good c → LabelOK w c.exec.ver k new →
+      Good (note_prepared r c k new lost)
   unfolding note_prepared
   note_prepared_ok c k new lost g n = go (place_of k 0 (walk r c).keys) refl
     where
-      go : (o : Option ℕ) → place_of k 0 (walk r c).keys ≡ o → Good (elim o [ None ↦ c | Some i ↦ follow_prepared c i (answer_at c i) new (effect (next_label (answer_at c i)) new lost) ])
+      go : (o : Option ℕ) → place_of k 0 (walk r c).keys ≡ o →
+          Good (elim o [ None ↦ c | Some i ↦ follow_prepared c i (answer_at c i) new (effect (next_label (answer_at c i)) new lost) ])
       go None e = g
       go (Some i) e = follow_prepared_ok c i k new (effect (next_label (answer_at c i)) new lost) g n (only_at c k i e) (λ z. effect_sure (next_label (answer_at c i)) new lost z)

@@ -44,9 +44,11 @@ others_found (w ∷ ws) m k n =
     let a = or_parts (same_key k w.key) (writes_key k ws) n in
     others_found ws (entry w.key w.value ∷ m) k a.1 ∙ ap (λ (t : Bool). first_of t w.value (found m k)) (same_back k w.key false a.0)
 
-pub others_hold : (cs : List CommittedExec) (m : List Entry) (k : Key) → ((c : CommittedExec) → IsIn c cs → writes_key k c.content.writes ≡ false) → found (map_of m cs) k ≡ found m k
+pub others_hold : (cs : List CommittedExec) (m : List Entry) (k : Key) → ((c : CommittedExec) → IsIn c cs → writes_key k c.content.writes ≡ false) →
+    found (map_of m cs) k ≡ found m k
 others_hold [] m k n = refl
-others_hold (c ∷ cs) m k n = others_hold cs (after_writes (map entry_written c.content.writes) m) k (λ d i. n d (inr i)) ∙ others_found c.content.writes m k (n c (inl refl))
+others_hold (c ∷ cs) m k n = others_hold cs (after_writes (map entry_written c.content.writes) m) k (λ d i. n d (inr i))
+    ∙ others_found c.content.writes m k (n c (inl refl))
 
 -- no entry of the key: no write of it
 none_written : (x : Exec) (i : ℕ) (k : Key) (ws : List Write) → ((e : BaseEntry) → IsIn e (entries_of x i ws) → e.key ≡ k → ⊥) → writes_key k ws ≡ false
@@ -60,10 +62,13 @@ none_written x i k (w ∷ ws) n = go (same_key k w.key) refl (none_written x (su
 -- a later write of one execution has a greater name
 later_wid : (a b : Wid) (i : ℕ) → a.ver ≡ b.ver → a.eid ≡ b.eid → a.seq ≡ i → suc i ≤ b.seq → wid_before a b ≡ true
 unfolding wid_before before same_version
-later_wid a b i v d q l = let t : a.ver.ts ≡ b.ver.ts = ap (λ (z : Version). z.ts) v in let c : a.ver.client ≡ b.ver.client = ap (λ (z : Version). z.client) v in grind (arith, nat_tests)
+later_wid a b i v d q l = let t : a.ver.ts ≡ b.ver.ts = ap (λ (z : Version). z.ts) v in let c : a.ver.client ≡ b.ver.client = ap (λ (z : Version). z.client) v in
+    grind (arith, nat_tests)
 
 -- the last write of a key is what the map holds then
-pub last_found : (x : Exec) (i : ℕ) (ws : List Write) (m : List Entry) (k : Key) (wid : Wid) (value : ℤ) → IsIn (record { key = k; wid = wid; value = value }) (entries_of x i ws) → ((e : BaseEntry) → IsIn e (entries_of x i ws) → e.key ≡ k → wid_before wid e.wid ≡ false)
+pub last_found : (x : Exec) (i : ℕ) (ws : List Write) (m : List Entry) (k : Key) (wid : Wid) (value : ℤ) →
+    IsIn (record { key = k; wid = wid; value = value }) (entries_of x i ws) →
+    ((e : BaseEntry) → IsIn e (entries_of x i ws) → e.key ≡ k → wid_before wid e.wid ≡ false)
     → found (after_writes (map entry_written ws) m) k ≡ Some value
 last_found x i [] m k wid value j last = absurd j
 last_found x i (w ∷ ws) m k wid value (inr j) last = last_found x (suc i) ws (entry w.key w.value ∷ m) k wid value j (λ e h f. last e (inr h) f)
@@ -78,17 +83,20 @@ last_found x i (w ∷ ws) m k wid value (inl z) last =
     later wz e h f =
         let n = entry_wid x (suc i) ws e h in
         let low = last e (inr h) f in
-        true_false (sym (later_wid wid e.wid i (ap (λ (u : Wid). u.ver) wz ∙ sym n.0) (ap (λ (u : Wid). u.eid) wz ∙ sym n.1) (ap (λ (u : Wid). u.seq) wz) n.2) ∙ low)
+        true_false (sym (later_wid wid e.wid i (ap (λ (u : Wid). u.ver) wz ∙ sym n.0) (ap (λ (u : Wid). u.eid) wz ∙ sym n.1) (ap (λ (u : Wid). u.seq) wz) n.2)
+        ∙ low)
 
 map_append : (as' bs : List CommittedExec) (m : List Entry) → map_of m (as' ++ bs) ≡ map_of (map_of m as') bs
 map_append [] bs m = refl
 map_append (a ∷ as') bs m = map_append as' bs (after_writes (map entry_written a.content.writes) m)
 
-pub map_one_more : (as' : List CommittedExec) (c : CommittedExec) (m : List Entry) → map_of m (as' ++ c ∷ []) ≡ after_writes (map entry_written c.content.writes) (map_of m as')
+pub map_one_more : (as' : List CommittedExec) (c : CommittedExec) (m : List Entry) →
+    map_of m (as' ++ c ∷ []) ≡ after_writes (map entry_written c.content.writes) (map_of m as')
 map_one_more as' c m = map_append as' (c ∷ []) m
 
 -- after an execution whose last write of the key this is, and more that do not write it
-pub latest_found : (as' bs : List CommittedExec) (d : CommittedExec) (m : List Entry) (k : Key) (wid : Wid) (value : ℤ) → IsIn (record { key = k; wid = wid; value = value }) (entries_of d.exec 1 d.content.writes)
+pub latest_found : (as' bs : List CommittedExec) (d : CommittedExec) (m : List Entry) (k : Key) (wid : Wid) (value : ℤ) →
+    IsIn (record { key = k; wid = wid; value = value }) (entries_of d.exec 1 d.content.writes)
     → ((e : BaseEntry) → IsIn e (entries_of d.exec 1 d.content.writes) → e.key ≡ k → wid_before wid e.wid ≡ false)
     → ((c : CommittedExec) → IsIn c bs → writes_key k c.content.writes ≡ false) → found (map_of m (as' ++ d ∷ bs)) k ≡ Some value
 latest_found as' bs d m k wid value i last none =

@@ -16,8 +16,8 @@ use Rattle.protocol.specs.Warden.Base.{entries_of}
 use Rattle.protocol.specs.World.State.{Plan, World, first_world}
 use Rattle.protocol.specs.World.Events.{replay_from, to_all, parcel}
 use Rattle.protocol.specs.World.Decided.{WasSent}
-use Rattle.law_serial.specs.Reads.{IsLastWrite, IsSure, SureNotes}
-use Rattle.law_serial.specs.Reads.IsSure.{First_value, Last_write}
+use Rattle.law_serial.specs.SureNotes.{IsLastWrite, IsSure, SureNotes}
+use Rattle.law_serial.specs.SureNotes.IsSure.{First_value, Last_write}
 use Rattle.protocol.proofs.TestLemmas.{and_left}
 use Rattle.protocol.proofs.ListsLemmas.{IsIn-cases, IsIn-map, IsIn-flat_map, IsIn-one_when, at_same}
 use Rattle.law_steps.proofs.MailLemmas.{took_reach}
@@ -47,7 +47,8 @@ sure_grows p w w' s k wid value (Lasts y l c t i) = Lasts y l (c.0, sent_grows p
 -- where a value comes from: it is sure, or a Puts has it
 pub data Source (p : Plan) (w : World) (k : Key) (wid : Wid) (value : ℤ) (s : Bool) : Type 0 where
   Certain : Sure p w k wid value → Source p w k wid value s
-  Put_by : s ≡ false → (y : Exec) (ws : List Write) → before no_version y.ver ≡ true → WasSent w (Puts y ws) → IsIn (record { key = k; wid = wid; value = value }) (entries_of y 1 ws) → Source p w k wid value s
+  Put_by : s ≡ false → (y : Exec) (ws : List Write) → before no_version y.ver ≡ true → WasSent w (Puts y ws) →
+      IsIn (record { key = k; wid = wid; value = value }) (entries_of y 1 ws) → Source p w k wid value s
 
 source_grows : (p : Plan) (w w' : World) → Step p w w' → (k : Key) (wid : Wid) (value : ℤ) (s : Bool) → Source p w k wid value s → Source p w' k wid value s
 source_grows p w w' st k wid value s (Certain c) = Certain (sure_grows p w w' st k wid value c)
@@ -77,7 +78,8 @@ module _ (p : Plan) (pos : 0 < p.replicas) (w : World) (q : Reach p w) (r : ℕ)
             entry = y.entry;
             last = λ e j g.
                 let h = s.bases.holds (dropped (w.replica r)) (base (w.replica r)) sent y.exec y.content y.decision.0 y.decision.1 y.prepare y.upto e j in
-                subst (λ (v : BaseEntry). wid_before v.wid e.wid ≡ false) (rising_one (base (w.replica r)) (drop_rising p w q _ (base (w.replica r)) sent) h.0 b h.1 i (h.2 ∙ g)) h.3;
+                subst (λ (v : BaseEntry). wid_before v.wid e.wid
+                ≡ false) (rising_one (base (w.replica r)) (drop_rising p w q _ (base (w.replica r)) sent) h.0 b h.1 i (h.2 ∙ g)) h.3;
           } in
           Lasts y.exec y.content y.decision y.prepare
           (subst (λ (v : Wid). IsLastWrite y.exec y.content k v a.value) (ap (λ (v : Held). v.wid) (sym f)) (subst (λ (v : ℤ). IsLastWrite y.exec y.content k b.wid v) (ap (λ (v : Held). v.value) (sym f)) (subst (λ (v : Key). IsLastWrite y.exec y.content v b.wid b.value) (sym e) top)))
@@ -93,10 +95,12 @@ in_due : (firsts : List First2) (r : ℕ) (h g : Handled) (e : Envelope) → IsI
 unfolding due
 in_due firsts r h g e i = let k = IsIn-flat_map (note_for firsts h g r) e (readers h) i in (k.0, k.2)
 
-answer_note : (firsts : List First2) (h : Handled) (b : Body) (v : Version) (k : Key) (wid : Wid) (value : ℤ) (s : Bool) (lost : Option Wid) → takes h b ≡ true → IsIn (Note v k wid value s lost) (answer firsts h b) → Latest firsts h v k wid value s
+answer_note : (firsts : List First2) (h : Handled) (b : Body) (v : Version) (k : Key) (wid : Wid) (value : ℤ) (s : Bool) (lost : Option Wid) →
+    takes h b ≡ true → IsIn (Note v k wid value s lost) (answer firsts h b) → Latest firsts h v k wid value s
 unfolding answer
 answer_note firsts h (Get x l) v k wid value s lost tk (inl e) =
-    let a : v ≡ x.ver = cc in let b : k ≡ l = cc in let c : wid ≡ (latest firsts h l x.ver).wid = cc in let d : value ≡ (latest firsts h l x.ver).value = cc in let f : s ≡ (latest firsts h l x.ver).sure = cc in
+    let a : v ≡ x.ver = cc in let b : k ≡ l = cc in let c : wid ≡ (latest firsts h l x.ver).wid = cc in let d : value ≡ (latest firsts h l x.ver).value = cc in
+    let f : s ≡ (latest firsts h l x.ver).sure = cc in
     subst (λ (y : Version). Latest firsts h y k wid value s) (sym a) (subst (λ (y : Key). Latest firsts h x.ver y wid value s) (sym b) (record { above = up_to_none (dropped h) x.ver (takes_above h (Get x l) tk); same_wid = sym c; same_value = sym d; sure = sym f }))
 answer_note firsts h (Get x l) v k wid value s lost tk (inr e) = absurd e
 answer_note firsts h (Prepare x c) v k wid value s lost tk i = let j = IsIn-map (λ (y : Cast). Voted y.exec y.vote) (Note v k wid value s lost) (new_cast h (casts h) (Prepare x c)) i in let e = j.2 in cc
@@ -106,7 +110,8 @@ answer_note firsts h (Fence u) v k wid value s lost tk (inl e) = cc
 answer_note firsts h (Fence u) v k wid value s lost tk (inr e) = absurd e
 answer_note firsts h _ v k wid value s lost tk i = absurd i
 
-refusal_note : (h : Handled) (b : Body) (v : Version) (k : Key) (wid : Wid) (value : ℤ) (s : Bool) (lost : Option Wid) → IsIn (Note v k wid value s lost) (refusal h b) → ⊥
+refusal_note : (h : Handled) (b : Body) (v : Version) (k : Key) (wid : Wid) (value : ℤ) (s : Bool) (lost : Option Wid) →
+    IsIn (Note v k wid value s lost) (refusal h b) → ⊥
 refusal_note h (Get x l) v k wid value s lost (inl e) = cc
 refusal_note h (Get x l) v k wid value s lost (inr e) = e
 refusal_note h _ v k wid value s lost i = i
@@ -116,17 +121,21 @@ unfolding note_for
 due_note firsts h g r reader e v k wid value s lost i q =
     let j = IsIn-one_when _ _ e i in
     let z = sym q ∙ ap (λ (y : Envelope). y.body) j.1 in
-    let a : v ≡ reader.ver = cc in let b : k ≡ reader.key = cc in let c : wid ≡ (latest firsts g reader.key reader.ver).wid = cc in let d : value ≡ (latest firsts g reader.key reader.ver).value = cc in let f : s ≡ (latest firsts g reader.key reader.ver).sure = cc in
+    let a : v ≡ reader.ver = cc in let b : k ≡ reader.key = cc in let c : wid ≡ (latest firsts g reader.key reader.ver).wid = cc in let d : value
+    ≡ (latest firsts g reader.key reader.ver).value = cc in let f : s ≡ (latest firsts g reader.key reader.ver).sure = cc in
     subst (λ (y : Version). Latest firsts g y k wid value s) (sym a) (subst (λ (y : Key). Latest firsts g reader.ver y wid value s) (sym b) (record { above = up_to_none (dropped g) reader.ver (and_left (before (dropped g) reader.ver) _ j.0); same_wid = sym c; same_value = sym d; sure = sym f }))
 
 body_in : (r : ℕ) (to : NodeId) (bs : List Body) (e : Envelope) → IsIn e (map (envelope_from r to) bs) → IsIn e.body bs
 body_in r to bs e i = let k = IsIn-map (envelope_from r to) e bs i in subst (λ b. IsIn b bs) (sym (ap (λ (m : Envelope). m.body) k.2)) k.1
 
-note_said : (firsts : List First2) (r : ℕ) (h : Handled) (m e : Envelope) (v : Version) (k : Key) (wid : Wid) (value : ℤ) (s : Bool) (lost : Option Wid) → IsIn e (says firsts r h m) → e.body ≡ Note v k wid value s lost → Latest firsts h v k wid value s ⊎ Latest firsts (after_taking h m) v k wid value s
+note_said : (firsts : List First2) (r : ℕ) (h : Handled) (m e : Envelope) (v : Version) (k : Key) (wid : Wid) (value : ℤ) (s : Bool) (lost : Option Wid) →
+    IsIn e (says firsts r h m) → e.body ≡ Note v k wid value s lost → Latest firsts h v k wid value s ⊎ Latest firsts (after_taking h m) v k wid value s
 unfolding says after_taking
 note_said firsts r h m e v k wid value s lost i q = go (takes h m.body) refl i
   where
-    go : (t : Bool) → takes h m.body ≡ t → IsIn e (cond t (map (envelope_from r m.from) (answer firsts h m.body) ++ due firsts r h (m ∷ h)) (map (envelope_from r m.from) (refusal h m.body))) → Latest firsts h v k wid value s ⊎ Latest firsts (cond t (m ∷ h) h) v k wid value s
+    go : (t : Bool) → takes h m.body ≡ t →
+        IsIn e (cond t (map (envelope_from r m.from) (answer firsts h m.body) ++ due firsts r h (m ∷ h)) (map (envelope_from r m.from) (refusal h m.body))) →
+        Latest firsts h v k wid value s ⊎ Latest firsts (cond t (m ∷ h) h) v k wid value s
     go true z i = elim (IsIn-cases e (map (envelope_from r m.from) (answer firsts h m.body)) (due firsts r h (m ∷ h)) i) [
       | inl j ↦ inl (answer_note firsts h m.body v k wid value s lost z (subst (λ b. IsIn b (answer firsts h m.body)) q (body_in r m.from (answer firsts h m.body) e j)))
       | inr j ↦ let d = in_due firsts r h (m ∷ h) e j in inr (due_note firsts h (m ∷ h) r d.0 e v k wid value s lost d.1 q)
@@ -145,7 +154,8 @@ module _ (p : Plan) (pos : 0 < p.replicas) (v : Version) (k : Key) (wid : Wid) (
   told_grows : (w w' : World) → Step p w w' → (before wid.ver v ≡ true) × Source p w k wid value s → (before wid.ver v ≡ true) × Source p w' k wid value s
   told_grows w w' st t = (t.0, source_grows p w w' st k wid value s t.1)
 
-  pub note_reach : (w : World) → Reach p w → (e : Envelope) (r : ℕ) → IsIn e w.mail → e.from ≡ Replica r → e.body ≡ Note v k wid value s lost → (before wid.ver v ≡ true) × Source p w k wid value s
+  pub note_reach : (w : World) → Reach p w → (e : Envelope) (r : ℕ) → IsIn e w.mail → e.from ≡ Replica r → e.body ≡ Note v k wid value s lost →
+      (before wid.ver v ≡ true) × Source p w k wid value s
   note_reach _ Begins e r i f b = absurd i
   note_reach _ (Next w w' q (Stands u)) e r i f b = told_grows w w' (Stands u) (note_reach w q e r (subst (λ l. IsIn e l) u.mail i) f b)
   note_reach _ (Next w w' q (Client_acts u)) e r i f b = elim (IsIn-cases e w.mail (flat_map (to_all p.replicas (Client u.c)) u.sent) (subst (λ l. IsIn e l) u.mail i)) [
@@ -160,7 +170,8 @@ module _ (p : Plan) (pos : 0 < p.replicas) (v : Version) (k : Key) (wid : Wid) (
     | inl j ↦ told_grows w w' (Replica_acts u) (note_reach w q e r j f b)
     | inr j ↦ elim (note_said p.firsts u.r (w.replica u.r) u.m e v k wid value s lost j b) [
       | inl l ↦ told_grows w w' (Replica_acts u) (latest_told w q u.r l)
-      | inr l ↦ latest_told w' (Next w w' q (Replica_acts u)) u.r (subst (λ (h : Handled). Latest p.firsts h v k wid value s) (sym (ap (λ (g : ℕ → Handled). g u.r) u.replica ∙ at_same u.r (after_taking (w.replica u.r) u.m) w.replica)) l)
+      | inr l ↦ latest_told w' (Next w w' q (Replica_acts u)) u.r (subst (λ (h : Handled). Latest p.firsts h v k wid value s) (sym (ap (λ (g : ℕ →
+          Handled). g u.r) u.replica ∙ at_same u.r (after_taking (w.replica u.r) u.m) w.replica)) l)
     ]
   ]
 

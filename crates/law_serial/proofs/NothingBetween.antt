@@ -1,8 +1,9 @@
+-- What was committed between a read and its reader would be in conflict with the reader.
 use Rattle.std.proofs.Common.{◌≡◌, refl, sym, ◌∙◌, true, false, Bool}
 use Rattle.std.specs.Prelude.{◌&&◌}
 use Rattle.protocol.specs.Words.{Read, before}
 use Rattle.protocol.specs.Replica.Votes.{conflicts, misses, writes_key}
-use Rattle.law_serial.specs.Reads.{NothingBetween}
+use Rattle.law_serial.specs.NothingBetween.{NothingBetween}
 use Rattle.law_steps.proofs.TakenLemmas.{true_false}
 use Rattle.law_safety.proofs.BaseEntries.{both, or_left_in}
 use Rattle.law_steps.proofs.VotesLemmas.{any_in}

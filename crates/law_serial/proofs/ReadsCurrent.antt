@@ -15,15 +15,16 @@ use Rattle.law_steps.proofs.WardenFacts.{WFact, ward_facts_reach}
 use Rattle.law_safety.proofs.BaseEntries.{entry_wid}
 use Rattle.law_safety.proofs.BaseIsOne.{entry_one}
 use Rattle.law_safety.proofs.CommitIsSent.{sent_committed}
-use Rattle.law_serial.specs.Reads.{IsSure}
-use Rattle.law_serial.specs.Reads.IsSure.{First_value, Last_write}
-use Rattle.law_serial.specs.Programs.{ReadsCurrent}
-use Rattle.law_serial.proofs.Read.{Source, note_reach}
-use Rattle.law_serial.proofs.Read.Source.{Certain, Put_by}
-use Rattle.law_serial.proofs.Read.Sure.{Firsts, Lasts}
-use Rattle.law_serial.specs.Fronts.{IsFront}
-use Rattle.law_serial.proofs.Fronts.{Fronts, written_front, fronts_reach}
-use Rattle.law_serial.proofs.Noted.{reads_noted, reads_sure}
+use Rattle.law_serial.specs.SureNotes.{IsSure}
+use Rattle.law_serial.specs.SureNotes.IsSure.{First_value, Last_write}
+use Rattle.law_serial.specs.Reads.{ReadsCurrent}
+use Rattle.law_serial.proofs.SureNotes.{Source, note_reach}
+use Rattle.law_serial.proofs.SureNotes.Source.{Certain, Put_by}
+use Rattle.law_serial.proofs.SureNotes.Sure.{Firsts, Lasts}
+use Rattle.txn_lang.specs.Laws.{IsFront}
+use Rattle.law_serial.proofs.PutsAreFronts.{Fronts, written_front, fronts_reach}
+use Rattle.law_serial.proofs.ReadsNoted.{reads_noted}
+use Rattle.law_serial.proofs.ReadsSure.{reads_sure}
 
 entries_front : (x : Exec) (i : ℕ) (ws more : List Write) (d : BaseEntry) → IsIn d (entries_of x i ws) → IsIn d (entries_of x i (ws ++ more))
 entries_front x i [] more d j = absurd j
@@ -32,7 +33,8 @@ entries_front x i (w ∷ ws) more d (inr j) = inr (entries_front x (suc i) ws mo
 
 module _ (p : Plan) (pos : 0 < p.replicas) (w : World) (q : Reach p w) (f : Fronts p w) (k : Key) (wid : Wid) (value : ℤ) where
   -- a write of a Puts whose name is that of a sure one has its value
-  same_value : (y : Exec) (ws : List Write) → before no_version y.ver ≡ true → WasSent w (Puts y ws) → IsIn (record { key = k; wid = wid; value = value }) (entries_of y 1 ws) → (other : ℤ) → IsSure p w k wid other → IsSure p w k wid value
+  same_value : (y : Exec) (ws : List Write) → before no_version y.ver ≡ true → WasSent w (Puts y ws) →
+      IsIn (record { key = k; wid = wid; value = value }) (entries_of y 1 ws) → (other : ℤ) → IsSure p w k wid other → IsSure p w k wid value
   same_value y ws n t i other (First_value e g) =
       let a = (entry_wid y 1 ws (record { key = k; wid = wid; value = value }) i).0 in
       let z : y.ver ≡ no_version = sym a ∙ ap (λ (u : Wid). u.ver) e in
@@ -59,13 +61,14 @@ module _ (p : Plan) (pos : 0 < p.replicas) (w : World) (q : Reach p w) (f : Fron
   valued s (Put_by e y ws n t i) other o = same_value y ws n t i other o
 
 pub reads_current : ReadsCurrent
-reads_current p pos prog grow events x k r t i =
+reads_current p premises events x k r t i =
     let w = replay_from p first_world events in let q = events_reach p first_world first_world Begins events in
-    let n = reads_noted p pos prog events x k r t i in
-    let s = reads_sure p pos prog events x k r t i in
-    (s.0, valued p pos w q (fronts_reach p grow w q) r.key r.wid r.value n.said.0 (told w q n.said.0 n.said.1 n.said.2 n.said.2.envelope.from refl) s.1.0 s.1.1)
+    let n = reads_noted p premises events x k r t i in
+    let s = reads_sure p premises events x k r t i in
+    (s.0, valued p premises.replicas w q (fronts_reach p premises.grow w q) r.key r.wid r.value n.said.0 (told w q n.said.0 n.said.1 n.said.2 n.said.2.envelope.from refl) s.1.0 s.1.1)
   where
-    told : (w : World) → Reach p w → (b : Bool) (lost : Option Wid) (n : WasSent w (Note x.ver r.key r.wid r.value b lost)) (g : NodeId) → n.envelope.from ≡ g → Source p w r.key r.wid r.value b
+    told : (w : World) → Reach p w → (b : Bool) (lost : Option Wid) (n : WasSent w (Note x.ver r.key r.wid r.value b lost)) (g : NodeId) → n.envelope.from ≡ g →
+        Source p w r.key r.wid r.value b
     told w q b lost n (Client c) e = absurd (subst (CFact c (w.client c)) n.body ((client_facts_reach p w q).said n.envelope c n.there e))
     told w q b lost n (Warden j) e = absurd (subst (WFact p.wardens j (w.warden j)) n.body ((ward_facts_reach p w q).said n.envelope j n.there e))
-    told w q b lost n (Replica j) e = (note_reach p pos x.ver r.key r.wid r.value b lost w q n.envelope j n.there e n.body).1
+    told w q b lost n (Replica j) e = (note_reach p premises.replicas x.ver r.key r.wid r.value b lost w q n.envelope j n.there e n.body).1

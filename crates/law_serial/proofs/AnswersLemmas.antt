@@ -1,3 +1,4 @@
+-- Answers as a list: each fits the key that is asked after the ones before it, and a Note makes sure what it names alone.
 use Rattle.std.proofs.Common.{◌≡◌, ℕ, ℤ, ◌+◌, inl, inr, refl, ap, sym, subst, true, false, Bool, cond, List, [], ◌∷◌, ◌++◌, Option, Some, None, append_assoc, get_or, set, take, arith}
 use Rattle.std.specs.Prelude.{zero, suc, map, not, ◌||◌, unwrap_or}
 use Rattle.std.specs.List.{slice_get, list_any}
@@ -39,25 +40,30 @@ module _ (W : List ℤ → Walk) (A : Key → Answer → Type 0) where
   further : (pre : List ℤ) (v : ℤ) (vs : List ℤ) (k : Key) → (W ((pre ++ v ∷ []) ++ vs)).asks ≡ Some k → (W (pre ++ v ∷ vs)).asks ≡ Some k
   further pre v vs k e = subst (λ l. (W l).asks ≡ Some k) (append_assoc pre (v ∷ []) vs) e
 
-  pub fits_append : (pre : List ℤ) (as' : List Answer) (new : Answer) → Fits W A pre as' → ((k : Key) → (W (pre ++ values as')).asks ≡ Some k → A k new) → Fits W A pre (as' ++ new ∷ [])
+  pub fits_append : (pre : List ℤ) (as' : List Answer) (new : Answer) → Fits W A pre as' → ((k : Key) → (W (pre ++ values as')).asks ≡ Some k → A k new) →
+      Fits W A pre (as' ++ new ∷ [])
   fits_append pre [] new o f = (λ k e. f k (at_end pre k e), tt)
   fits_append pre (a ∷ more) new o f = (o.0, fits_append (pre ++ a.label.value ∷ []) more new o.1 (λ k e. f k (further pre a.label.value (values more) k e)))
 
-  pub fits_cut : (pre : List ℤ) (as' : List Answer) (i : ℕ) (new : Answer) → Fits W A pre as' → ((k : Key) → (W (pre ++ take i (values as'))).asks ≡ Some k → A k new) → Fits W A pre (take i as' ++ new ∷ [])
+  pub fits_cut : (pre : List ℤ) (as' : List Answer) (i : ℕ) (new : Answer) → Fits W A pre as' →
+      ((k : Key) → (W (pre ++ take i (values as'))).asks ≡ Some k → A k new) → Fits W A pre (take i as' ++ new ∷ [])
   fits_cut pre [] zero new o f = (λ k e. f k (at_end pre k e), tt)
   fits_cut pre (a ∷ more) zero new o f = (λ k e. f k (at_end pre k e), tt)
   fits_cut pre [] (suc i) new o f = (λ k e. f k (at_end pre k e), tt)
   fits_cut pre (a ∷ more) (suc i) new o f = (o.0, fits_cut (pre ++ a.label.value ∷ []) more i new o.1 (λ k e. f k (further pre a.label.value (take i (values more)) k e)))
 
-  pub fits_set : (pre : List ℤ) (as' : List Answer) (i : ℕ) (new : Answer) → Fits W A pre as' → (get_or as' i no_answer).label.value ≡ new.label.value → ((k : Key) → (W (pre ++ take i (values as'))).asks ≡ Some k → A k (get_or as' i no_answer) → A k new) → Fits W A pre (set as' i new)
+  pub fits_set : (pre : List ℤ) (as' : List Answer) (i : ℕ) (new : Answer) → Fits W A pre as' → (get_or as' i no_answer).label.value ≡ new.label.value →
+      ((k : Key) → (W (pre ++ take i (values as'))).asks ≡ Some k → A k (get_or as' i no_answer) → A k new) → Fits W A pre (set as' i new)
   fits_set pre [] i new o e f = tt
   fits_set pre (a ∷ more) zero new o e f = (λ k q. f k (at_end pre k q) (o.0 k q), subst (λ v. Fits W A (pre ++ v ∷ []) more) e o.1)
   fits_set pre (a ∷ more) (suc i) new o e f = (o.0, fits_set (pre ++ a.label.value ∷ []) more i new o.1 e (λ k q h. f k (further pre a.label.value (take i (values more)) k q) h))
 
-  pub fits_get : (pre : List ℤ) (as' : List Answer) (i : ℕ) (a : Answer) (k : Key) → Fits W A pre as' → slice_get as' i ≡ Some a → (W (pre ++ take i (values as'))).asks ≡ Some k → A k a
+  pub fits_get : (pre : List ℤ) (as' : List Answer) (i : ℕ) (a : Answer) (k : Key) → Fits W A pre as' → slice_get as' i ≡ Some a →
+      (W (pre ++ take i (values as'))).asks ≡ Some k → A k a
   fits_get pre [] i a k o e q = cc
   fits_get pre (b ∷ more) zero a k o e q = let same : b ≡ a = cc in subst (λ z. A k z) same (o.0 k (subst (λ l. (W l).asks ≡ Some k) (append-nil pre) q))
-  fits_get pre (b ∷ more) (suc i) a k o e q = fits_get (pre ++ b.label.value ∷ []) more i a k o.1 e (subst (λ l. (W l).asks ≡ Some k) (sym (append_assoc pre (b.label.value ∷ []) (take i (values more)))) q)
+  fits_get pre (b ∷ more) (suc i) a k o e q = fits_get (pre ++ b.label.value ∷ []) more i a k o.1 e (subst (λ l. (W l).asks
+      ≡ Some k) (sym (append_assoc pre (b.label.value ∷ []) (take i (values more)))) q)
 
   module _ (moves : (k : Key) (a : Answer) → A k a → A k (moved_on a)) where
     or_left : (a b : Bool) → (a || b) ≡ false → a ≡ false
@@ -85,7 +91,8 @@ pub place_get : (k : Key) (j : ℕ) (ks : List Key) (i : ℕ) → place_of k j k
 place_get k j [] i e = cc
 place_get k j (l ∷ ks) i e = go (λ z. place_get k (suc j) ks i z) (same_key k l) refl e
   where
-    go : (place_of k (suc j) ks ≡ Some i → (d : ℕ) × (i ≡ suc j + d) × (slice_get ks d ≡ Some k)) → (t : Bool) → same_key k l ≡ t → cond t (Some j) (place_of k (suc j) ks) ≡ Some i → (d : ℕ) × (i ≡ j + d) × (slice_get (l ∷ ks) d ≡ Some k)
+    go : (place_of k (suc j) ks ≡ Some i → (d : ℕ) × (i ≡ suc j + d) × (slice_get ks d ≡ Some k)) → (t : Bool) → same_key k l ≡ t →
+        cond t (Some j) (place_of k (suc j) ks) ≡ Some i → (d : ℕ) × (i ≡ j + d) × (slice_get (l ∷ ks) d ≡ Some k)
     go ih true q e = (0, (let z : j ≡ i = cc in omega (arith, z)), ap Some (sym (key_is k l q)))
     go ih false q e = let m = ih e in (suc m.0, (let z = m.1 in omega (arith, z)), m.2)
 
@@ -103,13 +110,15 @@ pub read_at : (ks : List Key) (as' : List Answer) (r : Read) → IsIn r (reads_o
 read_at [] as' r i = absurd i
 read_at (k ∷ ks) [] r i = absurd i
 read_at (k ∷ ks) (a ∷ more) r (inl e) = record { place = 0; answer = a; key = ap Some (ap (λ (z : Read). z.key) (sym e)); found = refl; there = inl refl; wid = ap (λ (z : Read). z.wid) (sym e); value = ap (λ (z : Read). z.value) (sym e) }
-read_at (k ∷ ks) (a ∷ more) r (inr i) = let m = read_at ks more r i in record { place = suc m.place; answer = m.answer; key = m.key; found = m.found; there = inr m.there; wid = m.wid; value = m.value }
+read_at (k ∷ ks) (a ∷ more) r (inr i) = let m = read_at ks more r i in
+    record { place = suc m.place; answer = m.answer; key = m.key; found = m.found; there = inr m.there; wid = m.wid; value = m.value }
 
 -- a Note that turns a label sure has its write name, and is sure
 pub effect_sure : (old new : Held) (gone : Option Wid) → effect old new gone ≡ Sure → (old.wid ≡ new.wid) × (new.sure ≡ true)
 effect_sure old new gone e = go (same_wid old.wid new.wid) new.sure (wid_before old.wid new.wid || is_named old gone) refl refl e
   where
-    go : (t u v : Bool) → same_wid old.wid new.wid ≡ t → new.sure ≡ u → cond t (cond u Sure Nothing) (cond v Follow Nothing) ≡ Sure → (old.wid ≡ new.wid) × (new.sure ≡ true)
+    go : (t u v : Bool) → same_wid old.wid new.wid ≡ t → new.sure ≡ u → cond t (cond u Sure Nothing) (cond v Follow Nothing) ≡ Sure →
+        (old.wid ≡ new.wid) × (new.sure ≡ true)
     go true true v q f e = (wid_is old.wid new.wid q, f)
     go true false v q f e = cc
     go false u true q f e = cc
