@@ -32,14 +32,14 @@ use Rattle.law_steps.proofs.ExecutionsLemmas.{earlier_itself}
 use Rattle.law_safety.proofs.TruncationSettles.{CommitSent}
 use Rattle.law_safety.proofs.ClientEvidence.{upto_in}
 use Rattle.law_safety.proofs.WardenEvidence.{decided_sent}
-use Rattle.law_progress.proofs.Replies.{says_note, says_vote}
-use Rattle.law_progress.proofs.Calm.{IsCalm}
-use Rattle.law_progress.proofs.Steps.{Takes}
-use Rattle.law_progress.proofs.Messages.{IsOurs}
-use Rattle.law_progress.proofs.Replicas.{verdict_is_commit, tame_mail, tame_dropped, tame_promised, AllTame}
-use Rattle.law_progress.proofs.Tallies.{AllCommit, IsCounted}
-use Rattle.law_progress.proofs.Hearing.{clean}
-use Rattle.law_progress.proofs.Waiting.{IsWaiting, takes_waits, takes_sends}
+use Rattle.law_progress.proofs.RepliesLemmas.{says_note, says_vote}
+use Rattle.law_progress.proofs.CalmWardens.{IsCalm}
+use Rattle.law_progress.proofs.UndisturbedSteps.{Takes}
+use Rattle.law_progress.proofs.ApartMessages.{IsOurs}
+use Rattle.law_progress.proofs.ApartReplicas.{verdict_is_commit, tame_mail, tame_dropped, tame_promised, AllTame}
+use Rattle.law_progress.proofs.CommitTallies.{AllCommit, IsCounted}
+use Rattle.law_progress.proofs.ClientHears.{clean}
+use Rattle.law_progress.proofs.WaitingLemmas.{IsWaiting, takes_waits, takes_sends}
 
 -- the question of the client goes to a replica, or its answer to the client
 pub data Question (w : World) (c : ℕ) (x : Exec) (k : Key) : Type 0 where

@@ -22,7 +22,7 @@ Names (Prepare x c) y k = (x ≡ y) × (HasReadOf k c.reads ⊎ HasWriteOf k c.w
 Names _ y k = ⊥
 
 -- a body that was sent for transaction n of client c, in whichever try, names the key
-pub record IsNamed (w : World) (c n : ℕ) (k : Key) : Type 0 where
+pub record IsNamedFor (w : World) (c n : ℕ) (k : Key) : Type 0 where
   pub exec : Exec
   pub body : Body
   pub sent : WasSent w body
@@ -34,4 +34,4 @@ pub record IsNamed (w : World) (c n : ℕ) (k : Key) : Type 0 where
 
 -- no key that the transaction names is named by another
 abbrev pub IsApart : World → ℕ → ℕ → Type 0
-IsApart w c n = (k : Key) → IsNamed w c n k → (d m : ℕ) → IsNamed w d m k → (d ≡ c) × (m ≡ n)
+IsApart w c n = (k : Key) → IsNamedFor w c n k → (d m : ℕ) → IsNamedFor w d m k → (d ≡ c) × (m ≡ n)

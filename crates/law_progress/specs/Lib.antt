@@ -1,3 +1,3 @@
 pub mod Undisturbed
 pub mod Apart
-pub mod First
+pub mod FirstCommits

@@ -11,7 +11,7 @@ use Rattle.protocol_plans.specs.Limits.{IsScript}
 use Rattle.protocol_plans.specs.Scripted.{Scripted, plan_of}
 use Rattle.law_progress.specs.Undisturbed.{IsUndisturbed, IsSettled}
 use Rattle.law_progress.specs.Apart.{IsApart}
-use Rattle.law_progress.specs.First.{HasBegun}
+use Rattle.law_progress.specs.FirstCommits.{HasBegun}
 use Rattle.protocol_runs.specs.Samples.{four}
 
 -- read a x[1]; write x[1] a + 1; print a

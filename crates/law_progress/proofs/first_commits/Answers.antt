@@ -1,4 +1,4 @@
-use Rattle.law_progress.proofs.Scripts as proved
+use Rattle.law_progress.proofs.FirstCommits as proved
 use Rattle.law_progress.proofs.first_commits.Goals as goal
 
 pub returns : goal.returns

@@ -9,7 +9,7 @@ use Rattle.protocol.specs.Lists.{IsIn}
 use Rattle.protocol.specs.World.State.{World}
 use Rattle.protocol.specs.World.Events.{marked}
 use Rattle.protocol.proofs.ListsLemmas.{IsIn-cases}
-use Rattle.law_progress.proofs.Steps.{Takes, Acts}
+use Rattle.law_progress.proofs.UndisturbedSteps.{Takes, Acts}
 use Rattle.law_progress.specs.Undisturbed.{IsSettled}
 
 -- the envelope was sent and not delivered

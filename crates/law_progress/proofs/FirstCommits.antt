@@ -1,4 +1,4 @@
--- The law for plans that are made of programs.
+-- So it is in the plan of each script, since its programs ask or end.
 use Rattle.std.proofs.Common.{◌≡◌, refl, sym, ◌∙◌, subst, List, length, Option, Some, None}
 use Rattle.std.specs.Prelude.{ℤ, map, ◌-◌, option_map, MatchOption, IsSome, IsNone}
 use Rattle.std.specs.List.{slice_get}
@@ -9,9 +9,9 @@ use Rattle.txn_lang.proofs.Taking.{takes_answers}
 use Rattle.protocol.specs.Client.State.{Txn}
 use Rattle.protocol.specs.World.State.{txns_of}
 use Rattle.protocol_plans.specs.Scripted.{program_walk, Start, txn_of, Scripted, plan_of}
-use Rattle.law_progress.specs.First.{FirstCommits}
-use Rattle.law_progress.proofs.Law.{first_commits_of}
-use Rattle.law_progress.proofs.Moving.{AsksOrEnds}
+use Rattle.law_progress.specs.FirstCommits.{FirstCommits}
+use Rattle.law_progress.proofs.FirstCommitsOfPlans.{first_commits_of}
+use Rattle.law_progress.proofs.StageMoves.{AsksOrEnds}
 
 -- a program that has not ended asks
 program_asks : (p : Program) (vs : List ℤ) → (program_walk p vs).ending ≡ None → (k : Key) × ((program_walk p vs).asks ≡ Some k)

@@ -16,9 +16,9 @@ use Rattle.protocol.specs.World.Events.{to_all, parcel}
 use Rattle.protocol.proofs.ListsLemmas.{IsIn-cases, at_cases}
 use Rattle.law_steps.proofs.SendingLemmas.{from_to_all}
 use Rattle.law_steps.proofs.SaysLemmas.{spoken}
-use Rattle.law_progress.proofs.Steps.{Does, Takes, Acts, ClientAlone}
-use Rattle.law_progress.proofs.Steps.Does.{Nothing, Client_takes, Client_goes, Client_runs, Replica_takes, Warden_takes}
-use Rattle.law_progress.proofs.Waiting.{MarksWithin, in_marked}
+use Rattle.law_progress.proofs.UndisturbedSteps.{Does, Takes, Acts, ClientAlone}
+use Rattle.law_progress.proofs.UndisturbedSteps.Does.{Nothing, Client_takes, Client_goes, Client_runs, Replica_takes, Warden_takes}
+use Rattle.law_progress.proofs.WaitingLemmas.{MarksWithin, in_marked}
 
 -- a warden that did nothing hears what it will
 pub hears_fresh : (r : WardenRules) (from : NodeId) (b : Body) → warden_hears r fresh_warden from b ≡ still fresh_warden

@@ -22,7 +22,7 @@ use Rattle.protocol.proofs.NamesLemmas.{same_version_tells, same_exec_tells, key
 use Rattle.std.proofs.lemmas.Bool.Decides.{nat_tests}
 use Rattle.law_steps.proofs.TakenLemmas.{true_false}
 use Rattle.law_steps.proofs.VotesLemmas.{any_true}
-use Rattle.law_progress.proofs.Tallies.{AllCommit, IsCounted, commits_or_waits}
+use Rattle.law_progress.proofs.CommitTallies.{AllCommit, IsCounted, commits_or_waits}
 
 -- an answer that is a first value
 abbrev pub clean : ℤ → Answer

@@ -1,4 +1,4 @@
--- A transaction that shares no key with another is committed at once.
+-- A transaction that shares no key with another is committed at once, in each plan whose programs ask or end.
 use Rattle.std.proofs.Common.{◌≡◌, ◌≢◌, ℕ, ◌<◌, ◌≤◌, ◌+◌, ◌⊎◌, inl, inr, refl, ap, sym, ◌∙◌, subst, true, false, Bool, List, [], ◌∷◌, length, arith}
 use Rattle.std.specs.Prelude.{flat_map, nat_lt}
 use Rattle.std.proofs.lemmas.Bool.Decides.{eqb_tells}
@@ -22,24 +22,24 @@ use Rattle.law_safety.proofs.CommitIsSent.{sent_committed}
 use Rattle.law_safety.proofs.TruncationSettles.{CommitSent}
 use Rattle.law_steps.proofs.TryRec.{try_rec}
 use Rattle.law_safety.proofs.OneExecution.{kept_attempt}
-use Rattle.law_progress.specs.Apart.{IsNamed, IsApart}
-use Rattle.law_progress.specs.First.{HasBegun, IsFirstCommit}
+use Rattle.law_progress.specs.Apart.{IsNamedFor, IsApart}
+use Rattle.law_progress.specs.FirstCommits.{HasBegun, IsFirstCommit}
 use Rattle.law_progress.specs.Undisturbed.{IsUndisturbed, IsSettled}
-use Rattle.law_progress.proofs.Begins.{Goes, goes, goes_between, no_more_tries, begun_next, begins_first, begins_stands}
-use Rattle.law_progress.proofs.Begins.Goes.{Again, Next_one}
-use Rattle.law_progress.proofs.Begun.{comes_begun, ran_begun}
-use Rattle.law_progress.proofs.Calm.{IsCalm, calm_first, calm_step}
-use Rattle.law_progress.proofs.Steps.{Does, Takes, Acts, ClientAlone, does}
-use Rattle.law_progress.proofs.Steps.Does.{Nothing, Client_takes, Client_goes, Client_runs, Replica_takes, Warden_takes}
-use Rattle.law_progress.proofs.Messages.{IsOurs}
-use Rattle.law_progress.proofs.Moving.{AsksOrEnds, Moved, comes_moves, ran_moves}
-use Rattle.law_progress.proofs.Moving.Moved.{Still, Finished}
+use Rattle.law_progress.proofs.StageBegins.{Goes, goes, goes_between, no_more_tries, begun_next, begins_first, begins_stands}
+use Rattle.law_progress.proofs.StageBegins.Goes.{Again, Next_one}
+use Rattle.law_progress.proofs.BegunLemmas.{comes_begun, ran_begun}
+use Rattle.law_progress.proofs.CalmWardens.{IsCalm, calm_first, calm_step}
+use Rattle.law_progress.proofs.UndisturbedSteps.{Does, Takes, Acts, ClientAlone, does}
+use Rattle.law_progress.proofs.UndisturbedSteps.Does.{Nothing, Client_takes, Client_goes, Client_runs, Replica_takes, Warden_takes}
+use Rattle.law_progress.proofs.ApartMessages.{IsOurs}
+use Rattle.law_progress.proofs.StageMoves.{AsksOrEnds, Moved, comes_moves, ran_moves}
+use Rattle.law_progress.proofs.StageMoves.Moved.{Still, Finished}
 use Rattle.law_progress.proofs.Stage.{Question, Ballot, Stands, InFirst, Stage, Concerns, stands_on, replica_stands}
 use Rattle.law_progress.proofs.Stage.Question.{Asking, Telling}
 use Rattle.law_progress.proofs.Stage.Ballot.{Counted, Voting, Asked}
 use Rattle.law_progress.proofs.Stage.Stage.{Before, Under, Done}
-use Rattle.law_progress.proofs.Tallies.{IsCounted, all_counted}
-use Rattle.law_progress.proofs.Waiting.{acts_waits, takes_waits, none_waits}
+use Rattle.law_progress.proofs.CommitTallies.{IsCounted, all_counted}
+use Rattle.law_progress.proofs.WaitingLemmas.{acts_waits, takes_waits, none_waits}
 
 -- attempts stay
 attempts_later : (p : Plan) (w w' : World) → Reach p w → From p w w' → (c : ℕ) (a : Attempt) → IsIn a (w.client c).attempts → IsIn a (w'.client c).attempts
@@ -47,7 +47,7 @@ attempts_later p w _ q Begins c a i = i
 attempts_later p w _ q (Next v v' f s) c a i = kept_attempt p v v' (from_trans p first_world w v q f) s c a (attempts_later p w v q f c a i)
 
 -- what is apart in the end was so all along
-named_later : (p : Plan) (w w' : World) → Reach p w → From p w w' → (c n : ℕ) (k : Key) → IsNamed w c n k → IsNamed w' c n k
+named_later : (p : Plan) (w w' : World) → Reach p w → From p w w' → (c n : ℕ) (k : Key) → IsNamedFor w c n k → IsNamedFor w' c n k
 named_later p w w' q f c n k m = record {
   exec = m.exec;
   body = m.body;

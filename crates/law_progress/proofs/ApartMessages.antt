@@ -19,10 +19,10 @@ use Rattle.law_steps.proofs.PhaseLemmas.{warden_is}
 use Rattle.law_steps.proofs.Reach.{Reach}
 use Rattle.law_steps.proofs.ClientFacts.{CFact, client_facts_reach}
 use Rattle.law_safety.proofs.LocksLemmas.{cast_found}
-use Rattle.law_progress.specs.Apart.{IsApart, IsNamed}
-use Rattle.law_progress.proofs.Calm.{IsCalm}
-use Rattle.law_progress.proofs.Replicas.{own, sees_first, casts_commit, tame_mail, tame_dropped}
-use Rattle.law_progress.proofs.Told.{Told, NoteFrom, Within, told_reach, first_shape}
+use Rattle.law_progress.specs.Apart.{IsApart, IsNamedFor}
+use Rattle.law_progress.proofs.CalmWardens.{IsCalm}
+use Rattle.law_progress.proofs.ApartReplicas.{own, sees_first, casts_commit, tame_mail, tame_dropped}
+use Rattle.law_progress.proofs.NotesTold.{Told, NoteFrom, Within, told_reach, first_shape}
 
 -- a transaction that no other shares a key with, in its only attempt
 pub record IsOurs (w : World) (c n : ℕ) (a : Attempt) : Type 0 where
@@ -55,7 +55,7 @@ module _ (p : Plan) (pos : 0 < p.replicas) (w : World) (q : Reach p w) (calm : I
     in_mail : (r : ℕ) (g : Handled) → Within g (w.replica r) → Within g w.mail
     in_mail r g f m i = ((took_reach p w q).took r m (f m i)).0
 
-    sees : (r : ℕ) (g : Handled) → Within g (w.replica r) → (k : Key) → IsNamed w c n k → latest p.firsts g k a.ver ≡ first_held p.firsts k
+    sees : (r : ℕ) (g : Handled) → Within g (w.replica r) → (k : Key) → IsNamedFor w c n k → latest p.firsts g k a.ver ≡ first_held p.firsts k
     sees r g f k mine = sees_first p pos w q calm c n o.apart a o.begun o.txn o.client o.only g (in_mail r g f) o.above k mine
 
     -- each Note to this version tells a first value, and names nothing as gone
@@ -68,7 +68,7 @@ module _ (p : Plan) (pos : 0 < p.replicas) (w : World) (q : Reach p w) (calm : I
         by : (r : ℕ) → NoteFrom p.firsts (w.replica r) v k wid value s lost → (u : ℤ) × (first_held p.firsts k ≡ first_value u) → ((u : ℤ) × (record { wid = wid; value = value; sure = s } ≡ first_value u)) × (lost ≡ None)
         by r f shape = ((shape.0, f.told ∙ first_of f.list f.within ∙ shape.1), gone f.gone)
           where
-            mine : IsNamed w c n k
+            mine : IsNamedFor w c n k
             mine = own p pos w q calm c n o.apart a o.begun o.txn o.client o.only f.asked.exec (Get f.asked.exec k) k (f.asked.version ∙ same)
                 (record { envelope = f.asked.envelope; there = ((took_reach p w q).took r f.asked.envelope f.asked.there).0; body = f.asked.body }) (refl, refl)
 

@@ -34,8 +34,8 @@ use Rattle.law_safety.proofs.OneExecution.{kept_attempt}
 use Rattle.law_safety.proofs.HeldLemmas.{latest_is, HeldCase, kept_taken}
 use Rattle.law_safety.proofs.HeldLemmas.HeldCase.{Is_first, Of_base, Of_commit, Of_put}
 use Rattle.law_safety.proofs.ContentsReplayed.{replayed}
-use Rattle.law_progress.specs.Apart.{HasReadOf, HasWriteOf, Names, IsNamed, IsApart}
-use Rattle.law_progress.proofs.Calm.{IsCalm}
+use Rattle.law_progress.specs.Apart.{HasReadOf, HasWriteOf, Names, IsNamedFor, IsApart}
+use Rattle.law_progress.proofs.CalmWardens.{IsCalm}
 
 -- a body that asks for no promise, fences and drops nothing
 abbrev pub IsTame : Body → Type 0
@@ -158,7 +158,7 @@ module _ (p : Plan) (pos : 0 < p.replicas) (w : World) (q : Reach p w) (calm : I
 
   module _ (c n : ℕ) (apart : IsApart w c n) (a : Attempt) (begun : IsIn a (w.client c).attempts) (txn : a.txn ≡ n) (client : a.ver.client ≡ c) (only : (b : Attempt) → IsIn b (w.client c).attempts → b.txn ≡ n → b.ver ≡ a.ver) where
     -- what an execution of this version names, the transaction names
-    pub own : (x : Exec) (b : Body) (k : Key) → x.ver ≡ a.ver → WasSent w b → Names b x k → IsNamed w c n k
+    pub own : (x : Exec) (b : Body) (k : Key) → x.ver ≡ a.ver → WasSent w b → Names b x k → IsNamedFor w c n k
     own x b k e t m = record {
       exec = x;
       body = b;
@@ -171,15 +171,15 @@ module _ (p : Plan) (pos : 0 < p.replicas) (w : World) (q : Reach p w) (calm : I
     }
 
     -- and what names such a key is of this version
-    same : (y : Exec) (b : Body) (k : Key) → IsNamed w c n k → WasSent w b → Names b y k → (z : Attempt) → IsOf w y z → y.ver ≡ a.ver
+    same : (y : Exec) (b : Body) (k : Key) → IsNamedFor w c n k → WasSent w b → Names b y k → (z : Attempt) → IsOf w y z → y.ver ≡ a.ver
     same y b k mine t m z of =
         let s = apart k mine y.ver.client z.txn (record { exec = y; body = b; sent = t; names = m; attempt = z; of = of; client = refl; txn = refl }) in
         sym of.version ∙ only z (subst (λ (j : ℕ). IsIn z (w.client j).attempts) s.0 of.begun) s.1
 
-    put_same : (y : Exec) (ws : List Write) (k : Key) → IsNamed w c n k → WasSent w (Puts y ws) → HasWriteOf k ws → y.ver ≡ a.ver
+    put_same : (y : Exec) (ws : List Write) (k : Key) → IsNamedFor w c n k → WasSent w (Puts y ws) → HasWriteOf k ws → y.ver ≡ a.ver
     put_same y ws k mine t m = let o = puts_attempt p w q y ws t in same y (Puts y ws) k mine t (refl, m) o.0 o.1
 
-    prepare_same : (y : Exec) (l : Content) (k : Key) → IsNamed w c n k → WasSent w (Prepare y l) → HasReadOf k l.reads ⊎ HasWriteOf k l.writes → y.ver ≡ a.ver
+    prepare_same : (y : Exec) (l : Content) (k : Key) → IsNamedFor w c n k → WasSent w (Prepare y l) → HasReadOf k l.reads ⊎ HasWriteOf k l.writes → y.ver ≡ a.ver
     prepare_same y l k mine t m = let o = replayed p w q y l t in same y (Prepare y l) k mine t (refl, m) o.0 o.1
 
     not_below : (y : Exec) → y.ver ≡ a.ver → before y.ver a.ver ≡ true → ⊥
@@ -196,7 +196,7 @@ module _ (p : Plan) (pos : 0 < p.replicas) (w : World) (q : Reach p w) (calm : I
       cast_sent k i = let t = cast_taken h k i in (contents_reach p pos w q).from t.0.body k.exec k.content t.2 (record { envelope = t.0; there = sent t.0 t.1; body = refl })
 
       -- what this version sees of its keys is their first values
-      pub sees_first : before no_version a.ver ≡ true → (k : Key) → IsNamed w c n k → latest p.firsts h k a.ver ≡ first_held p.firsts k
+      pub sees_first : before no_version a.ver ≡ true → (k : Key) → IsNamedFor w c n k → latest p.firsts h k a.ver ≡ first_held p.firsts k
       sees_first above k mine = let l = latest_is p.firsts h k a.ver above in go l.0 l.1
         where
           go : before (latest p.firsts h k a.ver).wid.ver a.ver ≡ true → HeldCase p.firsts h k (latest p.firsts h k a.ver) → latest p.firsts h k a.ver ≡ first_held p.firsts k

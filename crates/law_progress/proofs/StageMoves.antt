@@ -26,17 +26,17 @@ use Rattle.law_safety.proofs.LocksLemmas.{voted_prepared}
 use Rattle.law_steps.proofs.Senders.{prepare_from}
 use Rattle.law_steps.proofs.PhaseLemmas.{running_between}
 use Rattle.law_safety.proofs.TruncationSettles.{CommitSent}
-use Rattle.law_progress.proofs.Calm.{IsCalm}
-use Rattle.law_progress.proofs.Steps.{Takes, Acts}
-use Rattle.law_progress.proofs.Messages.{IsOurs, no_warden, note_first, not_old, vote_commits}
+use Rattle.law_progress.proofs.CalmWardens.{IsCalm}
+use Rattle.law_progress.proofs.UndisturbedSteps.{Takes, Acts}
+use Rattle.law_progress.proofs.ApartMessages.{IsOurs, no_warden, note_first, not_old, vote_commits}
 use Rattle.law_progress.proofs.Stage.{Question, Ballot, IsClean, Stands, InFirst, to_each}
 use Rattle.law_progress.proofs.Stage.Question.{Asking, Telling}
 use Rattle.law_progress.proofs.Stage.Ballot.{Counted, Voting, Asked}
-use Rattle.law_progress.proofs.Tallies.{AllCommit, none_counted}
-use Rattle.law_progress.proofs.Hearing.{clean, map_more, ready, ready_not, Hears, Counts, running_hears, prepared_hears}
-use Rattle.law_progress.proofs.Hearing.Hears.{Ignored, Answered}
-use Rattle.law_progress.proofs.Hearing.Counts.{Ignores, Adds, Commits}
-use Rattle.law_progress.proofs.Waiting.{IsWaiting, takes_waits, acts_sends}
+use Rattle.law_progress.proofs.CommitTallies.{AllCommit, none_counted}
+use Rattle.law_progress.proofs.ClientHears.{clean, map_more, ready, ready_not, Hears, Counts, running_hears, prepared_hears}
+use Rattle.law_progress.proofs.ClientHears.Hears.{Ignored, Answered}
+use Rattle.law_progress.proofs.ClientHears.Counts.{Ignores, Adds, Commits}
+use Rattle.law_progress.proofs.WaitingLemmas.{IsWaiting, takes_waits, acts_sends}
 
 -- a program that has not ended asks for a read
 abbrev pub AsksOrEnds : Plan → Type 0
