@@ -8,15 +8,15 @@ use Rattle.morty_base.proofs.Orders.{key_before_total}
 use Rattle.report.specs.declared.rows.Rows.{Rows}
 use Rattle.protocol.specs.World.State.{World}
 use Rattle.protocol.specs.World.Committed.{is_committed, committed_executions}
-use Rattle.protocol_plans.specs.Scripted.{program_walk}
+use Rattle.protocol_plans.specs.Scripted.{program_walk, plan_of}
 use Rattle.net_core.specs.Fair.{IsFairRun}
 use Rattle.world.specs.Machine.{machine_of, machine_over, world_after}
 use Rattle.world.proofs.SameWorlds.{worlds_agree}
 use Rattle.net_core.proofs.AnswersDecide.{fair_runs_agree}
-use Rattle.world.proofs.Replays.{histories_replay}
+use Rattle.world.proofs.HistoriesReplay.{histories_replay}
 use Rattle.world.specs.Rows.{rows_of}
 use Rattle.first_form.specs.declared.script.FirstScript.{FirstScript}
-use Rattle.first_form.specs.Script.{cell, plan, program, scripted, sum_fits, turns, world_of}
+use Rattle.first_form.specs.Script.{cell, program, scripted, sum_fits, turns, world_of}
 use Rattle.first_form.specs.Stage.{content_of, row_of, written_or}
 use Rattle.first_form.proofs.Journals.{done_journal, overflow_journal, journal_of, events_of}
 use Rattle.first_form.proofs.Setting.{Setting}
@@ -51,22 +51,22 @@ by_fit P s fits overflows = decide (sum_fits s) fits overflows
     decide true fits overflows = fits refl
     decide false fits overflows = overflows refl
 
-done_fair : (s : FirstScript) → sum_fits s ≡ true → IsFairRun (machine_of (plan s)) turns (reverse done_journal) Quiet
+done_fair : (s : FirstScript) → sum_fits s ≡ true → IsFairRun (machine_of (plan_of (scripted s))) turns (reverse done_journal) Quiet
 done_fair s fits =
     let worlds = world_in (done_worlds (setting s) (sum s)) in
-    (fair_runs_agree (machine_over (plan s) worlds) (machine_of (plan s)) (reverse done_journal) refl
-    (worlds_agree (plan s) worlds (world_after (plan s)) (reverse done_journal) (done_worlds_follow (setting s) (sum s) (asks_in s) (writes_in s fits)))
+    (fair_runs_agree (machine_over (plan_of (scripted s)) worlds) (machine_of (plan_of (scripted s))) (reverse done_journal) refl
+    (worlds_agree (plan_of (scripted s)) worlds (world_after (plan_of (scripted s))) (reverse done_journal) (done_worlds_follow (setting s) (sum s) (asks_in s) (writes_in s fits)))
     turns Quiet).0 (done_run (setting s) (sum s))
 
-overflow_fair : (s : FirstScript) → sum_fits s ≡ false → IsFairRun (machine_of (plan s)) turns (reverse overflow_journal) Quiet
+overflow_fair : (s : FirstScript) → sum_fits s ≡ false → IsFairRun (machine_of (plan_of (scripted s))) turns (reverse overflow_journal) Quiet
 overflow_fair s fits =
     let worlds = world_in (overflow_worlds (setting s)) in
-    (fair_runs_agree (machine_over (plan s) worlds) (machine_of (plan s)) (reverse overflow_journal) refl
-    (worlds_agree (plan s) worlds (world_after (plan s)) (reverse overflow_journal) (overflow_worlds_follow (setting s) (asks_in s) (overflows_in s fits)))
+    (fair_runs_agree (machine_over (plan_of (scripted s)) worlds) (machine_of (plan_of (scripted s))) (reverse overflow_journal) refl
+    (worlds_agree (plan_of (scripted s)) worlds (world_after (plan_of (scripted s))) (reverse overflow_journal) (overflow_worlds_follow (setting s) (asks_in s) (overflows_in s fits)))
     turns Quiet).0 (overflow_run (setting s))
 
-pub fair_run : (s : FirstScript) → IsFairRun (machine_of (plan s)) turns (reverse (journal_of s)) Quiet
-fair_run s = by_fit (λ b. IsFairRun (machine_of (plan s)) turns (reverse (cond b done_journal overflow_journal)) Quiet) s (done_fair s) (overflow_fair s)
+pub fair_run : (s : FirstScript) → IsFairRun (machine_of (plan_of (scripted s))) turns (reverse (journal_of s)) Quiet
+fair_run s = by_fit (λ b. IsFairRun (machine_of (plan_of (scripted s))) turns (reverse (cond b done_journal overflow_journal)) Quiet) s (done_fair s) (overflow_fair s)
 
 -- the rows that are made of a content, a last value and so many events, at a start
 abbrev rows_with : FirstScript → ℕ → Content → ℤ → ℕ → Rows
@@ -87,8 +87,8 @@ made_rows s = record {
 }
 
 -- the rows after a journal whose history leads to a world
-rows_there : (s : FirstScript) (journal : List Event) (w : World) → w ≡ world_after (plan s) (reverse journal) → rows_of (scripted s) (world_of s journal) ≡ rows_of (scripted s) w
-rows_there s journal w leads = ap (rows_of (scripted s)) (sym (histories_replay (plan s) journal) ∙ sym leads)
+rows_there : (s : FirstScript) (journal : List Event) (w : World) → w ≡ world_after (plan_of (scripted s)) (reverse journal) → rows_of (scripted s) (world_of s journal) ≡ rows_of (scripted s) w
+rows_there s journal w leads = ap (rows_of (scripted s)) (sym (histories_replay (plan_of (scripted s)) journal) ∙ sym leads)
 
 done_end : (s : FirstScript) → rows_of (scripted s) (done.world9 (setting s) (sum s)) ≡ rows_with s (s.at + 0) (done.content_in (setting s) (sum s)) (sum s) 9
 unfolding rows_of committed_executions is_committed

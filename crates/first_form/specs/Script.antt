@@ -6,7 +6,7 @@ use Rattle.txn_lang.specs.declared.tree.Expr.TheVariants as expr
 use Rattle.txn_lang.specs.declared.tree.Stmt.TheVariants as stmt
 use Rattle.txn_lang.specs.Value.{fits_word}
 use Rattle.txn_lang.specs.Program.{Program}
-use Rattle.protocol.specs.World.State.{Plan, World, first_world}
+use Rattle.protocol.specs.World.State.{World, first_world}
 use Rattle.protocol.specs.World.Events.{replay_from}
 use Rattle.protocol_plans.specs.Scripted.{Scripted, plan_of}
 use Rattle.first_form.specs.declared.script.FirstScript.{FirstScript}
@@ -44,16 +44,13 @@ scripted s = record {
   gap = 1;
 }
 
-abbrev pub plan : FirstScript → Plan
-plan s = plan_of (scripted s)
-
 -- how many turns each node may make
 abbrev pub turns : ℕ
 turns = 5000
 
 -- the world that the events of a journal make
 abbrev pub world_of : FirstScript → List Event → World
-world_of s journal = replay_from (plan s) first_world journal
+world_of s journal = replay_from (plan_of (scripted s)) first_world journal
 
 -- the sum that the program writes has a 64-bit value
 abbrev pub sum_fits : FirstScript → Bool

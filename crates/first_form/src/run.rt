@@ -3,7 +3,8 @@ ghost use Rattle.morty_base.specs.declared.names.Ended.TheVariants.{Quiet};
 ghost use Rattle.net_core.specs.Fair.{IsFairRun};
 ghost use Rattle.world.specs.Machine.{machine_of};
 ghost use Rattle.world.specs.Rows.{rows_of};
-ghost use Rattle.first_form.specs.Script.{cell as cell_of, version_of, scripted, plan, turns, world_of};
+ghost use Rattle.protocol_plans.specs.Scripted.{plan_of};
+ghost use Rattle.first_form.specs.Script.{cell as cell_of, version_of, scripted, turns, world_of};
 ghost use Rattle.first_form.specs.Stage.{content_of, row_of, written_or, rank};
 ghost use Rattle.first_form.specs.Play.{IsPlay, turned, turns_left};
 
@@ -150,7 +151,7 @@ pub fn run_script(alloc: Global, script: &FirstScript) -> Result<Run, NoMemory>
     // The rows are those of the world that the journal's events make.
     ensures rows { IfOk result (λ run. run.rows ≡ rows_of (scripted script.now) (world_of script.now run.journal)) }
     // The nodes took turns in rounds, each pick is the fair one, and nobody was left with anything to do.
-    ensures fair { IfOk result (λ run. IsFairRun (machine_of (plan script.now)) turns (reverse run.journal) Quiet) }
+    ensures fair { IfOk result (λ run. IsFairRun (machine_of (plan_of (scripted script.now))) turns (reverse run.journal) Quiet) }
 {
     let Play {
         journal,

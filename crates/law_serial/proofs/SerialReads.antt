@@ -31,7 +31,7 @@ use Rattle.protocol.specs.World.Events.{replay_from}
 use Rattle.protocol.specs.World.Decided.{WasSent, Committed, IsOf}
 use Rattle.protocol.specs.World.Committed.{CommittedExec, committed_executions}
 use Rattle.protocol_plans.specs.Scripted.{Start, Scripted, plan_of}
-use Rattle.protocol_plans.proofs.Walking.{plans_have_programs}
+use Rattle.protocol_plans.proofs.PlansHavePrograms.{plans_have_programs}
 use Rattle.protocol.proofs.NamesLemmas.{version_is}
 use Rattle.protocol.proofs.ListsLemmas.{IsIn-left, IsIn-right, IsIn-cases}
 use Rattle.law_steps.proofs.Reach.{Reach, events_reach}

@@ -1,5 +1,9 @@
 //! The programs of the language as the protocol takes them: what a program does on answers is its replay. And the limits
 //! of the scripts that plans are made of.
+//!
+//! Read `specs/Scripted` (programs as walks, a script, its plan), `AlwaysOfScripts` (how laws speak of scripts),
+//! `SerialOutcome` (what it means that executions are a serial run, and a base its map), `Limits` and `Laws`. That programs
+//! walk follows from the laws of their replays, and a script's plan is made of them (`proofs/PlansHavePrograms`).
 #![tactic(auto)]
 
 ghost use Rattle.protocol_plans.specs.Laws.{ProgramsWalk, PlansHavePrograms, ScriptsMeetPremises};

@@ -3,7 +3,7 @@ use Rattle.std.proofs.Common.{◌≡◌, ℕ, ◌≤◌, ◌⊎◌, List, length
 use Rattle.std.specs.Prelude.{IfSome}
 use Rattle.protocol.specs.Words.{Event}
 use Rattle.first_form.specs.declared.script.FirstScript.{FirstScript}
-use Rattle.script_cli.specs.TopCall.{run_words, script_limit, not_built, report_text, IsNotBuilt, IsReport, IsScript, IsDue, Bad_command, Read_failed, Too_long, Not_built, IsAnswered, Written, Cut, Out_of_memory}
+use Rattle.script_cli.specs.TopCall.{run_words, script_limit, not_built, report_text, IsNotBuilt, IsReport, IsFirstScript, IsDue, Bad_command, Read_failed, Too_long, Not_built, IsAnswered, Written, Cut, Out_of_memory}
 use Rattle.script_cli.specs.TopCall.{Reported as Report_due}
 use Rattle.script_cli.specs.Made.{IsWritten, Whole, Part, IsTextAnswered, Reported, Refused, No_memory}
 
@@ -34,7 +34,7 @@ module _ (words : List (List ℕ)) (left : Option (List ℕ)) (ReadFailed : Type
 pub completes :
     (words : List (List ℕ)) (bytes : List ℕ) (ReadFailed : Type 0) (old new : Option (List ℕ)) (WriteFailed : Type 0) (status : ℕ) (journal : List Event) →
     IsAnswered words (Some bytes) ReadFailed old new WriteFailed status journal →
-    words ≡ run_words → (ReadFailed → ⊥) → (WriteFailed → ⊥) → (script : FirstScript) → IsScript bytes script → (status ≡ 0) ⊎ (status ≡ 9)
+    words ≡ run_words → (ReadFailed → ⊥) → (WriteFailed → ⊥) → (script : FirstScript) → IsFirstScript bytes script → (status ≡ 0) ⊎ (status ≡ 9)
 completes words bytes R old new W status journal (Written text due takes) run sound whole script is = of_due due
   where
     of_due : IsDue words (Some bytes) R status journal text → (status ≡ 0) ⊎ (status ≡ 9)
@@ -50,6 +50,6 @@ completes words bytes R old new W status journal (Out_of_memory r untouched nine
 pub completes_told :
     (words : List (List ℕ)) (left : Option (List ℕ)) (ReadFailed : Type 0) (old new : Option (List ℕ)) (WriteFailed : Type 0) (status : ℕ) (journal : List Event) →
     IsAnswered words left ReadFailed old new WriteFailed status journal →
-    words ≡ run_words → (ReadFailed → ⊥) → (WriteFailed → ⊥) → IfSome left (λ bytes. (script : FirstScript) → IsScript bytes script → (status ≡ 0) ⊎ (status ≡ 9))
+    words ≡ run_words → (ReadFailed → ⊥) → (WriteFailed → ⊥) → IfSome left (λ bytes. (script : FirstScript) → IsFirstScript bytes script → (status ≡ 0) ⊎ (status ≡ 9))
 completes_told words None R old new W status journal answered run sound whole = tt
 completes_told words (Some bytes) R old new W status journal answered run sound whole = completes words bytes R old new W status journal answered run sound whole

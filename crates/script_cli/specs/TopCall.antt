@@ -7,7 +7,8 @@ use Rattle.net_core.specs.Fair.{IsFairRun}
 use Rattle.world.specs.Machine.{machine_of}
 use Rattle.world.specs.Rows.{rows_of}
 use Rattle.first_form.specs.declared.script.FirstScript.{FirstScript}
-use Rattle.first_form.specs.Script.{scripted, plan, turns, world_of}
+use Rattle.protocol_plans.specs.Scripted.{plan_of}
+use Rattle.first_form.specs.Script.{scripted, turns, world_of}
 use Rattle.first_form.specs.FirstForm.{IsFirstForm}
 
 -- the one command: run
@@ -40,13 +41,13 @@ pub record IsNotBuilt (bytes : List ℕ) : Type 0 where
   pub none : (script : FirstScript) → ¬ IsFirstForm bytes script
 
 -- the bytes are a script of the first form
-pub record IsScript (bytes : List ℕ) (script : FirstScript) : Type 0 where
+pub record IsFirstScript (bytes : List ℕ) (script : FirstScript) : Type 0 where
   pub short : length bytes ≤ script_limit
   pub form : IsFirstForm bytes script
 
 -- it is so of each script that the bytes say, where they are told
 abbrev pub OfScript : Option (List ℕ) → (FirstScript → Type 0) → Type 0
-OfScript left P = IfSome left (λ bytes. (script : FirstScript) → IsScript bytes script → P script)
+OfScript left P = IfSome left (λ bytes. (script : FirstScript) → IsFirstScript bytes script → P script)
 
 -- the report of the world that the journal's events make of the script, where its run ended quiet
 abbrev pub report_text : FirstScript → List Event → List ℕ
@@ -54,12 +55,12 @@ report_text script journal = report_of (script.table ∷ []) (rows_of (scripted 
 
 -- the journal is that of a run of the script in rounds, by the fair rule, which ended quiet
 abbrev pub IsQuietRun : FirstScript → List Event → Type 0
-IsQuietRun script journal = IsFairRun (machine_of (plan script)) turns (reverse journal) Quiet
+IsQuietRun script journal = IsFairRun (machine_of (plan_of (scripted script))) turns (reverse journal) Quiet
 
 -- the text is the report of the run with this journal of the bytes' script
 pub record IsReport (bytes : List ℕ) (journal : List Event) (text : List ℕ) : Type 0 where
   pub script : FirstScript
-  pub form : IsScript bytes script
+  pub form : IsFirstScript bytes script
   pub run : IsQuietRun script journal
   pub written : text ≡ report_text script journal
 
@@ -84,7 +85,7 @@ IsRefused old new bytes = (IsTooLong bytes × Takes old new too_long) ⊎ (IsNot
 
 -- the report of the bytes' script for this journal was written
 abbrev pub IsReported : Option (List ℕ) → Option (List ℕ) → List Event → List ℕ → Type 0
-IsReported old new journal bytes = (script : FirstScript) × IsScript bytes script × Takes old new (report_text script journal)
+IsReported old new journal bytes = (script : FirstScript) × IsFirstScript bytes script × Takes old new (report_text script journal)
 
 -- the sink took a part of what was due
 abbrev pub IsCut : List (List ℕ) → Option (List ℕ) → Type 0 → Option (List ℕ) → Option (List ℕ) → List Event → Type 0

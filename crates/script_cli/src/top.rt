@@ -5,8 +5,9 @@ ghost use Rattle.net_core.specs.Rounds.{InRounds};
 ghost use Rattle.net_core.specs.Fair.{AllFair};
 ghost use Rattle.world.specs.Machine.{machine_of};
 ghost use Rattle.law_outcomes.specs.Outcome.{IsCorrectThroughout};
-ghost use Rattle.first_form.specs.Script.{scripted, plan, turns};
-ghost use Rattle.script_cli.specs.TopCall.{run_words, bad_command_line, read_failed as read_failed_line, IsAnswered, IsReported, IsRefused, IsScript, OfScript, IsCut, IsStatus};
+ghost use Rattle.protocol_plans.specs.Scripted.{plan_of};
+ghost use Rattle.first_form.specs.Script.{scripted, turns};
+ghost use Rattle.script_cli.specs.TopCall.{run_words, bad_command_line, read_failed as read_failed_line, IsAnswered, IsReported, IsRefused, IsFirstScript, OfScript, IsCut, IsStatus};
 ghost use Rattle.morty_io.specs.Faults.{Rose};
 ghost use Rattle.morty_io.specs.Bytes.{Takes};
 ghost use Rattle.first_form.specs.declared.script.FirstScript.{FirstScript as FirstScriptValue};
@@ -150,11 +151,11 @@ pub fn run_here<S: Source, K: Sink>(
     ensures reported { result.status ≡ 0 → IfSome (S.left src.old) (IsReported (K.taken out.old) (K.taken out.new) result.journal.items) }
     ensures emptied { result.status ≡ 0 → IfSome (S.left src.old) (λ _. S.left src.new ≡ Some []) }
     ensures ended { result.status ≡ 0 →
-        OfScript (S.left src.old) (λ script. end_of (machine_of (plan script)) turns (reverse result.journal.items) ≡ Some Quiet) }
+        OfScript (S.left src.old) (λ script. end_of (machine_of (plan_of (scripted script))) turns (reverse result.journal.items) ≡ Some Quiet) }
     ensures in_rounds { result.status ≡ 0 →
-        OfScript (S.left src.old) (λ script. InRounds (machine_of (plan script)) turns (reverse result.journal.items)) }
+        OfScript (S.left src.old) (λ script. InRounds (machine_of (plan_of (scripted script))) turns (reverse result.journal.items)) }
     ensures fair_picks { result.status ≡ 0 →
-        OfScript (S.left src.old) (λ script. AllFair (machine_of (plan script)) (reverse result.journal.items)) }
+        OfScript (S.left src.old) (λ script. AllFair (machine_of (plan_of (scripted script))) (reverse result.journal.items)) }
 
     // Whatever the status, at each moment of the journal: no execution is decided two ways by two nodes, at most one
     // execution of a transaction is committed, what is committed is the serial run of its programs, and each Drop that was
@@ -178,7 +179,7 @@ pub fn run_here<S: Source, K: Sink>(
 
     // A script of the first form is run where nothing fails, and there are no other statuses.
     ensures complete { words.now ≡ run_words → ¬ Rose (S.faults src.old) (S.faults src.new) → ¬ Rose (K.faults out.old) (K.faults out.new) →
-        IfSome (S.left src.old) (λ bytes. (script : FirstScriptValue) → IsScript bytes script → (result.status ≡ 0) ⊎ (result.status ≡ 9)) }
+        IfSome (S.left src.old) (λ bytes. (script : FirstScriptValue) → IsFirstScript bytes script → (result.status ≡ 0) ⊎ (result.status ≡ 9)) }
     ensures known { IsStatus result.status }
     ensures unrun { result.status ≢ 0 → result.status ≢ 5 → result.journal.items ≡ [] }
 {

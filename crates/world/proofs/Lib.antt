@@ -1,2 +1,2 @@
-pub mod Replays
+pub mod HistoriesReplay
 pub mod SameWorlds

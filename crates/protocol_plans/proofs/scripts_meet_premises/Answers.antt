@@ -1,4 +1,4 @@
-use Rattle.protocol_plans.proofs.Walking as proved
+use Rattle.protocol_plans.proofs.PlansHavePrograms as proved
 use Rattle.protocol_plans.proofs.scripts_meet_premises.Goals as goal
 
 pub returns : goal.returns

@@ -1,4 +1,4 @@
-use Rattle.world.proofs.Replays as proved
+use Rattle.world.proofs.HistoriesReplay as proved
 use Rattle.world.proofs.histories_replay.Goals as goal
 
 pub returns : goal.returns

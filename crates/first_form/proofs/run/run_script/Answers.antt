@@ -10,7 +10,8 @@ use Rattle.world.specs.Rows.{rows_of}
 use Rattle.first_form.specs.declared.script.FirstScript.{FirstScript}
 use Rattle.first_form.specs.declared.stage.Stage.TheVariants.{Committed}
 use Rattle.first_form.specs.declared.run.Play.{Play}
-use Rattle.first_form.specs.Script.{cell, plan, scripted, turns, world_of}
+use Rattle.protocol_plans.specs.Scripted.{plan_of}
+use Rattle.first_form.specs.Script.{cell, scripted, turns, world_of}
 use Rattle.first_form.specs.Play.{IsPlay}
 use Rattle.first_form.specs.Stage.{content_of, row_of, written_or, rank}
 use Rattle.first_form.proofs.Journals.{journal_of}
@@ -59,5 +60,5 @@ returns-clause-fair c =
     let s = c.args.script.now in
     let last = is_last s c.in_ok-journal.field-0 c.in_ok-journal.ensures.kept c.in_ok-journal.ensures.idle in
     let journal : c.in_ok-journal.field-0.journal ≡ journal_of s = ap (λ (p : Play). p.journal) last in
-    let P : List Event → Type 0 = λ j. IsFairRun (machine_of (plan s)) turns (reverse j) Quiet in
+    let P : List Event → Type 0 = λ j. IsFairRun (machine_of (plan_of (scripted s))) turns (reverse j) Quiet in
     subst P (sym journal) (fair_run s)

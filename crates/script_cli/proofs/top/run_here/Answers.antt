@@ -7,7 +7,8 @@ use Rattle.net_core.specs.Rounds.{InRounds}
 use Rattle.world.specs.Machine.{machine_of}
 use Rattle.law_outcomes.specs.Outcome.{IsCorrectThroughout}
 use Rattle.law_outcomes.proofs.Outcomes.{outcomes_are_correct}
-use Rattle.first_form.specs.Script.{scripted, plan, turns}
+use Rattle.protocol_plans.specs.Scripted.{plan_of}
+use Rattle.first_form.specs.Script.{scripted, turns}
 use Rattle.script_cli.specs.TopCall.{IsQuietRun}
 use Rattle.script_cli.proofs.Answered.{completes_told}
 use Rattle.script_cli.proofs.Ran.{of_all, of_script, quiet_run}
@@ -17,21 +18,21 @@ pub returns-clause-ended : goal.returns-clause-ended
 returns-clause-ended g c zero =
     let left = g.S.Source.left c.args.src.now in
     let journal = c.answer.result.journal.items in
-    of_script left (λ script. IsQuietRun script journal) (λ script. end_of (machine_of (plan script)) turns (reverse journal) ≡ Some Quiet)
+    of_script left (λ script. IsQuietRun script journal) (λ script. end_of (machine_of (plan_of (scripted script))) turns (reverse journal) ≡ Some Quiet)
     (quiet_run c.args.words.now left _ _ _ _ _ journal c.answer.ensures.answered zero) (λ script run. run.ends)
 
 pub returns-clause-in_rounds : goal.returns-clause-in_rounds
 returns-clause-in_rounds g c zero =
     let left = g.S.Source.left c.args.src.now in
     let journal = c.answer.result.journal.items in
-    of_script left (λ script. IsQuietRun script journal) (λ script. InRounds (machine_of (plan script)) turns (reverse journal))
+    of_script left (λ script. IsQuietRun script journal) (λ script. InRounds (machine_of (plan_of (scripted script))) turns (reverse journal))
     (quiet_run c.args.words.now left _ _ _ _ _ journal c.answer.ensures.answered zero) (λ script run. run.rounds)
 
 pub returns-clause-fair_picks : goal.returns-clause-fair_picks
 returns-clause-fair_picks g c zero =
     let left = g.S.Source.left c.args.src.now in
     let journal = c.answer.result.journal.items in
-    of_script left (λ script. IsQuietRun script journal) (λ script. AllFair (machine_of (plan script)) (reverse journal))
+    of_script left (λ script. IsQuietRun script journal) (λ script. AllFair (machine_of (plan_of (scripted script))) (reverse journal))
     (quiet_run c.args.words.now left _ _ _ _ _ journal c.answer.ensures.answered zero) (λ script run. run.fair)
 
 pub returns-clause-correct : goal.returns-clause-correct

@@ -1,4 +1,4 @@
--- The walks of programs, from the laws of their replays.
+-- Programs walk by the laws of their replays, so the plan of each script has what the laws of the protocol ask.
 use Rattle.std.proofs.Common.{◌≡◌, ℕ, ◌<◌, ◌⊎◌, inl, inr, arith, refl, ap, sym, ◌∙◌, subst, List, [], take, Option, Some, None}
 use Rattle.std.specs.Prelude.{ℤ, map, ◌-◌, option_map}
 use Rattle.std.specs.List.{slice_get}
