@@ -1,0 +1,9 @@
+pub mod Placing
+pub mod Fronts
+pub mod AskedReads
+pub mod OneMore
+pub mod Rewinding
+pub mod Labelling
+pub mod Taking
+pub mod Contents
+pub mod LastJobs

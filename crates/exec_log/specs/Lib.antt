@@ -1,0 +1,4 @@
+pub mod Entries
+pub mod Knowledge
+pub mod Log
+pub mod Standing
