@@ -2,7 +2,7 @@
 use Rattle.std.proofs.Common.{◌≡◌, ℕ, suc, ◌+◌, ◌<◌, ◌≤◌, List, [], ◌∷◌, ◌++◌, length, take, drop, map, reverse, Bool, Option, Some, None, refl, ap, sym, subst, ◌∙◌, inr, ⊎_elim, ℤ, arith, length-append}
 use Rattle.std.specs.Prelude.{slice_get, slice_index_or}
 use Rattle.std.proofs.Math.Seq.{take-append_seam, take-length, get_or-append_seam}
-use Rattle.std.proofs.lemmas.List.{length-map, take-map, take-append-le, take-append-drop, length-take-le}
+use Rattle.std.proofs.lemmas.List.{map-append, length-map, take-map, take-append-le, take-append-drop, length-take-le}
 use Rattle.std.proofs.lemmas.Option.{slice_get_within, slice_get_read}
 use Rattle.morty_base.specs.declared.names.Wid.{Wid}
 use Rattle.msg.specs.declared.Write.{Write}
@@ -188,6 +188,14 @@ reads_cut v l i r wid x value sure reads is read same are =
     ∙ ap (λ y. take i v.reads ++ labelled_read r.key wid y sure ∷ []) same
     ∙ ap (λ o. cut_at o v.reads i wid value sure) (sym read)
     ∙ ap (λ (y : Log). answered_at y.reads i wid value sure) is
+
+-- the answers to reads with one more
+pub answers_then : (front reads : List LogRead) (key : Key) (wid : Wid) (x value : ℤ) (sure : Bool) →
+    reads ≡ front ++ labelled_read key wid x sure ∷ [] → x ≡ value → answers_in reads ≡ answers_in front ++ value ∷ []
+answers_then front reads key wid x value sure is same =
+    ap answers_in is
+    ∙ map-append (λ (r : LogRead). r.value) front (labelled_read key wid x sure ∷ [])
+    ∙ ap (λ y. answers_in front ++ y ∷ []) same
 
 -- the place of a read that was rewound is where the job goes on
 pub rewound_job : (code : Flat) (p : Program) (l l' : Log) (i : ℕ) (r r' : LogRead) (m : Place) (cont : Cont)

@@ -5,7 +5,7 @@ ghost use Rattle.txn_lang.specs.Program.{Program, replay_of, serial_of};
 ghost use Rattle.flat_code.specs.Operation.{Flat};
 ghost use Rattle.exec_log.specs.Entries.{read_of, kept_writes};
 ghost use Rattle.exec_log.specs.Log.{fresh_log, answers_of, asked_by, ending_by, labelled_read, labelled, answered_at};
-ghost use Rattle.exec_log.specs.Standing.{StandsFor, IsLastRun, GoesOnAt, IsContentOf};
+ghost use Rattle.exec_log.specs.Standing.{StandsFor, IsLastRun, GoesOnAt, IsLastJob, IsContentOf};
 
 use crate::copies::{add_writes, content_reads, copy_cont, copy_next};
 use crate::knowledge::knowledge;
@@ -102,6 +102,7 @@ impl ExecLog {
         requires asked { self.old.broken ≡ false → IsSome (asked_by self.old.next) }
         ensures stands { OnOk result ((code : Flat) (p : Program) → StandsFor code p self.old → StandsFor code p self.new) }
         ensures job { IfOk result (λ at. (code : Flat) (p : Program) → StandsFor code p self.old → GoesOnAt code p (answers_of self.old) value at) }
+        ensures last { IfOk result (λ at. (code : Flat) (p : Program) → StandsFor code p self.old → IsLastJob code p self.new at) }
         ensures reads { OnOk result (IfSome (asked_by self.old.next) (λ key. self.new.reads ≡ self.old.reads ++ labelled_read key wid value sure ∷ [])) }
         ensures pending { OnOk result (self.new.next ≡ None) }
         ensures whole { OnOk result (self.new.broken ≡ false) }
@@ -164,6 +165,7 @@ impl ExecLog {
         requires within { self.old.broken ≡ false → i < length self.old.reads }
         ensures stands { OnOk result ((code : Flat) (p : Program) → StandsFor code p self.old → StandsFor code p self.new) }
         ensures job { IfOk result (λ at. (code : Flat) (p : Program) → StandsFor code p self.old → GoesOnAt code p (take i (answers_of self.old)) value at) }
+        ensures last { IfOk result (λ at. (code : Flat) (p : Program) → StandsFor code p self.old → IsLastJob code p self.new at) }
         ensures reads { OnOk result (self.new.reads ≡ answered_at self.old.reads i wid value sure) }
         ensures pending { OnOk result (self.new.next ≡ None) }
         ensures whole { OnOk result (self.new.broken ≡ false) }

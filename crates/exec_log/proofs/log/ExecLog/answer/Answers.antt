@@ -1,8 +1,8 @@
 use Rattle.std.proofs.Common.{◌≡◌, ◌∷◌, ◌++◌, [], length, Some, ap, sym, ◌∙◌, w64, to_z, of_z, rules}
 use Rattle.continuation.specs.declared.segment.Next.TheVariants as next
 use Rattle.exec_log.specs.declared.read.Place.{Place}
-use Rattle.exec_log.specs.Log.{Log, labelled_read}
-use Rattle.exec_log.proofs.Rewinding.{stands_answered, answered_job}
+use Rattle.exec_log.specs.Log.{Log, answers_of, labelled_read}
+use Rattle.exec_log.proofs.Rewinding.{answers_then, stands_answered, answered_job}
 use Rattle.exec_log.proofs.log.ExecLog.answer.Goals as goal
 
 pub returns-clause-stands : goal.returns-clause-stands
@@ -42,4 +42,17 @@ returns-clause-job c = λ code p s.
             (c.as_slice-2.ensures.value ∙ ap (λ (x : Log). x.writes) c.self.view_is)
             c.in_ok-known.ensures.shows,
       ),
+    )
+
+pub returns-clause-last : goal.returns-clause-last
+returns-clause-last c = λ code p s.
+    let l = c.args.self.now in
+    let key = c.in-Some-Asks.key in
+    let r = labelled_read key c.args.wid (to_z w64 (of_z w64 c.args.value)) c.args.sure in
+    let same : to_z w64 (of_z w64 c.args.value) ≡ c.args.value = search rules in (
+      answers_of l,
+      c.args.value,
+      answers_then l.reads c.push-2.new.self.items key c.args.wid (to_z w64 (of_z w64 c.args.value)) c.args.value c.args.sure
+          (c.in_ok-push-2.ensures.items ∙ ap (λ (x : Log). x.reads ++ r ∷ []) c.self.view_is) same,
+      returns-clause-job c code p s,
     )

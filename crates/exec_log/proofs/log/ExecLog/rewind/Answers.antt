@@ -1,9 +1,11 @@
-use Rattle.std.proofs.Common.{◌≡◌, ◌<◌, ◌∷◌, ◌++◌, [], take, length, Some, None, false, refl, ap, ◌∙◌, w64, to_z, of_z, arith, rules}
+use Rattle.std.proofs.Common.{◌≡◌, ◌<◌, ◌∷◌, ◌++◌, [], take, length, Some, None, false, refl, ap, sym, ◌∙◌, w64, to_z, of_z, arith, rules}
 use Rattle.std.specs.Prelude.{slice_get}
+use Rattle.std.proofs.lemmas.List.{take-map}
 use Rattle.std.proofs.lemmas.Option.{slice_get_within}
+use Rattle.exec_log.specs.declared.read.LogRead.{LogRead}
 use Rattle.exec_log.specs.declared.read.Place.{Place}
-use Rattle.exec_log.specs.Log.{Log, labelled_read}
-use Rattle.exec_log.proofs.Rewinding.{Rewound, rewound, place_again, reads_cut, stands_rewound, rewound_job}
+use Rattle.exec_log.specs.Log.{Log, answers_of, labelled_read}
+use Rattle.exec_log.proofs.Rewinding.{answers_then, Rewound, rewound, place_again, reads_cut, stands_rewound, rewound_job}
 use Rattle.exec_log.proofs.log.ExecLog.rewind.Goals as goal
 
 pub returns-clause-stands : goal.returns-clause-stands
@@ -72,3 +74,19 @@ returns-clause-reads c =
     let same : to_z w64 (of_z w64 c.args.value) ≡ c.args.value = search rules in
     reads_cut _ c.args.self.now c.args.i r c.args.wid _ c.args.value c.args.sure c.push.new.self.items c.self.view_is c.read.ensures same
     (c.in_ok-push.ensures.items ∙ ap (λ rs. rs ++ labelled_read r.key c.args.wid (to_z w64 (of_z w64 c.args.value)) c.args.sure ∷ []) c.truncate.ensures.items)
+
+pub returns-clause-last : goal.returns-clause-last
+returns-clause-last c = λ code p s.
+    let l = c.args.self.now in
+    let i = c.args.i in
+    let r = c.read.result in
+    let r' = labelled_read r.key c.args.wid (to_z w64 (of_z w64 c.args.value)) c.args.sure in
+    let same : to_z w64 (of_z w64 c.args.value) ≡ c.args.value = search rules in
+    let reads : c.push.new.self.items ≡ take i l.reads ++ r' ∷ [] =
+    c.in_ok-push.ensures.items ∙ ap (λ rs. rs ++ r' ∷ []) c.truncate.ensures.items ∙ ap (λ (x : Log). take i x.reads ++ r' ∷ []) c.self.view_is in (
+      take i (answers_of l),
+      c.args.value,
+      answers_then (take i l.reads) c.push.new.self.items r.key c.args.wid (to_z w64 (of_z w64 c.args.value)) c.args.value c.args.sure reads same
+          ∙ ap (λ xs. xs ++ c.args.value ∷ []) (sym (take-map (λ (x : LogRead). x.value) i l.reads)),
+      returns-clause-job c code p s,
+    )
