@@ -1,5 +1,5 @@
 -- What a script has no node for does nothing.
-use Rattle.std.proofs.Common.{◌≡◌, ℕ, ◌≤◌, ◌<◌, ◌⊎◌, inl, inr, refl, sym, subst, true, [], ◌∷◌, Some, arith}
+use Rattle.std.proofs.Common.{◌≡◌, ℕ, ◌≤◌, ◌<◌, ◌⊎◌, inl, inr, refl, subst, true, [], ◌∷◌, Some, arith}
 use Rattle.std.specs.Prelude.{zero, suc, map, length, nat_lt, nat_le}
 use Rattle.protocol.specs.Words.{Exec, NodeId, Client, Replica, Warden, Choice}
 use Rattle.protocol.specs.Lists.{IsIn, upto}
@@ -7,14 +7,12 @@ use Rattle.protocol.specs.Replica.Taken.{Handled}
 use Rattle.protocol.specs.Client.State.{ClientState, fresh_client}
 use Rattle.protocol.specs.Warden.State.{WardenState, fresh_warden}
 use Rattle.protocol.specs.World.State.{Plan, World, exists, in_range}
-use Rattle.protocol.specs.World.Events.{at}
 use Rattle.protocol.specs.World.Decided.{decided_by}
 use Rattle.protocol.specs.World.Committed.{nodes}
 use Rattle.protocol.proofs.TestLemmas.{and_left, and_right, lt_is, le_is}
-use Rattle.protocol.proofs.ListsLemmas.{IsIn-left, IsIn-right, at_cases, map_in}
-use Rattle.law_steps.proofs.Reach.{Step, Reach}
-use Rattle.law_steps.proofs.Reach.Step.{Stands, Client_acts, Replica_acts, Warden_acts}
-use Rattle.law_steps.proofs.Reach.From.{Begins, Next}
+use Rattle.protocol.proofs.ListsLemmas.{IsIn-left, IsIn-right, map_in}
+use Rattle.law_steps.proofs.Reach.{Reach}
+use Rattle.law_steps.proofs.Induction.{on_clients, on_replicas, on_wardens}
 
 -- each record outside the script is as it was at first
 pub record Absent (p : Plan) (w : World) : Type 0 where
@@ -22,35 +20,12 @@ pub record Absent (p : Plan) (w : World) : Type 0 where
   pub replica : (r : ℕ) → (w.replica r ≡ []) ⊎ (in_range r p.replicas ≡ true)
   pub warden : (k : ℕ) → (w.warden k ≡ fresh_warden) ⊎ (in_range k p.wardens ≡ true)
 
--- a change at a number of the script leaves the others
-elsewhere : {A : Type 0} (z : A) (n k : ℕ) (a : A) (f : ℕ → A) → in_range k n ≡ true → (j : ℕ) → (f j ≡ z) ⊎ (in_range j n ≡ true) → (at k a f j ≡ z) ⊎ (in_range j n ≡ true)
-elsewhere {A = A} z n k a f real j old = at_cases (λ (b : A). (b ≡ z) ⊎ (in_range j n ≡ true)) k a f j (λ e. inr (subst (λ (i : ℕ). in_range i n ≡ true) (sym e) real)) old
-
 pub absent_reach : (p : Plan) (w : World) → Reach p w → Absent p w
-absent_reach p _ Begins = record { client = λ c. inl refl; replica = λ r. inl refl; warden = λ k. inl refl }
-absent_reach p _ (Next w w' q st) = go (absent_reach p w q) st
-  where
-    go : Absent p w → Step p w w' → Absent p w'
-    go t (Stands s) = record {
-      client = subst (λ (f : ℕ → ClientState). (c : ℕ) → (f c ≡ fresh_client) ⊎ (in_range c (length p.clients) ≡ true)) (sym s.client) t.client;
-      replica = subst (λ (f : ℕ → Handled). (r : ℕ) → (f r ≡ []) ⊎ (in_range r p.replicas ≡ true)) (sym s.replica) t.replica;
-      warden = subst (λ (f : ℕ → WardenState). (k : ℕ) → (f k ≡ fresh_warden) ⊎ (in_range k p.wardens ≡ true)) (sym s.warden) t.warden;
-    }
-    go t (Client_acts s) = record {
-      client = subst (λ (f : ℕ → ClientState). (c : ℕ) → (f c ≡ fresh_client) ⊎ (in_range c (length p.clients) ≡ true)) (sym s.client) (λ c. elsewhere fresh_client (length p.clients) s.c s.state w.client s.real c (t.client c));
-      replica = subst (λ (f : ℕ → Handled). (r : ℕ) → (f r ≡ []) ⊎ (in_range r p.replicas ≡ true)) (sym s.replica) t.replica;
-      warden = subst (λ (f : ℕ → WardenState). (k : ℕ) → (f k ≡ fresh_warden) ⊎ (in_range k p.wardens ≡ true)) (sym s.warden) t.warden;
-    }
-    go t (Replica_acts s) = record {
-      client = subst (λ (f : ℕ → ClientState). (c : ℕ) → (f c ≡ fresh_client) ⊎ (in_range c (length p.clients) ≡ true)) (sym s.client) t.client;
-      replica = subst (λ (f : ℕ → Handled). (r : ℕ) → (f r ≡ []) ⊎ (in_range r p.replicas ≡ true)) (sym s.replica) (λ r. elsewhere [] p.replicas s.r _ w.replica s.real r (t.replica r));
-      warden = subst (λ (f : ℕ → WardenState). (k : ℕ) → (f k ≡ fresh_warden) ⊎ (in_range k p.wardens ≡ true)) (sym s.warden) t.warden;
-    }
-    go t (Warden_acts s) = record {
-      client = subst (λ (f : ℕ → ClientState). (c : ℕ) → (f c ≡ fresh_client) ⊎ (in_range c (length p.clients) ≡ true)) (sym s.client) t.client;
-      replica = subst (λ (f : ℕ → Handled). (r : ℕ) → (f r ≡ []) ⊎ (in_range r p.replicas ≡ true)) (sym s.replica) t.replica;
-      warden = subst (λ (f : ℕ → WardenState). (k : ℕ) → (f k ≡ fresh_warden) ⊎ (in_range k p.wardens ≡ true)) (sym s.warden) (λ k. elsewhere fresh_warden p.wardens s.k s.state w.warden s.real k (t.warden k));
-    }
+absent_reach p w q = record {
+  client = on_clients p (λ w c s. (s ≡ fresh_client) ⊎ (in_range c (length p.clients) ≡ true)) (λ c. inl refl) (λ w w' st c s k. k) (λ w w' q s k. inr s.real) w q;
+  replica = on_replicas p (λ w r h. (h ≡ []) ⊎ (in_range r p.replicas ≡ true)) (λ r. inl refl) (λ w w' st r h k. k) (λ w w' q s k. inr s.real) w q;
+  warden = on_wardens p (λ w k s. (s ≡ fresh_warden) ⊎ (in_range k p.wardens ≡ true)) (λ k. inl refl) (λ w w' st k s z. z) (λ w w' q s k. inr s.real) w q;
+}
 
 -- who decided something is a node of the script
 decided_real : (p : Plan) (w : World) → Reach p w → (n : NodeId) (x : Exec) (d : Choice) → decided_by w n x ≡ Some d → exists p n ≡ true

@@ -11,15 +11,14 @@ use Rattle.protocol.specs.Replica.Says.{answer, refusal, says}
 use Rattle.protocol.specs.Replica.Readers.{due, envelope_from}
 use Rattle.protocol.specs.World.State.{Plan, World}
 use Rattle.protocol.specs.World.Decided.{WasSentBy}
-use Rattle.protocol.proofs.ListsLemmas.{IsIn-left, IsIn-right, IsIn-cases, IsIn-one_when, at_cases, map_in}
+use Rattle.protocol.proofs.ListsLemmas.{IsIn-left, IsIn-right, IsIn-cases, IsIn-one_when, map_in}
 use Rattle.law_steps.proofs.MailLemmas.{mail_grows}
 use Rattle.law_steps.proofs.Reach.{Step, Reach}
-use Rattle.law_steps.proofs.Reach.Step.{Stands, Client_acts, Replica_acts, Warden_acts}
-use Rattle.law_steps.proofs.Reach.From.{Begins, Next}
 use Rattle.law_steps.proofs.ReplicaFacts.{RFact, facts_reach}
 use Rattle.law_safety.specs.Invariants.{AnswersTell, AnswersTellOf}
 use Rattle.law_safety.proofs.LocksLemmas.{cast_found}
 use Rattle.law_steps.proofs.AlwaysLemmas.{always_of_any}
+use Rattle.law_steps.proofs.Induction.{on_replicas}
 
 cast_answer : (firsts : List First2) (h : Handled) (b : Body) (c : Cast) → IsIn c (new_cast h (casts h) b) → IsIn (Voted c.exec c.vote) (answer firsts h b)
 unfolding answer
@@ -65,14 +64,8 @@ spoke_taking w' firsts r h m sent t = go (takes h m.body) refl
     }
 
 pub spoke_reach : (p : Plan) (w : World) → Reach p w → (r : ℕ) → Spoke w r (w.replica r)
-spoke_reach p _ Begins r = record { votes = λ c i. absurd i; accepts = λ a i. absurd i }
-spoke_reach p _ (Next w w' q (Stands s)) r = subst (λ (f : ℕ → Handled). Spoke w' r (f r)) (sym s.replica) (spoke_grows p w w' (Stands s) r _ (spoke_reach p w q r))
-spoke_reach p _ (Next w w' q (Client_acts s)) r = subst (λ (f : ℕ → Handled). Spoke w' r (f r)) (sym s.replica) (spoke_grows p w w' (Client_acts s) r _ (spoke_reach p w q r))
-spoke_reach p _ (Next w w' q (Warden_acts s)) r = subst (λ (f : ℕ → Handled). Spoke w' r (f r)) (sym s.replica) (spoke_grows p w w' (Warden_acts s) r _ (spoke_reach p w q r))
-spoke_reach p _ (Next w w' q (Replica_acts s)) r = subst (λ (f : ℕ → Handled). Spoke w' r (f r)) (sym s.replica)
-    (at_cases (λ (h : Handled). Spoke w' r h) s.r (after_taking (w.replica s.r) s.m) w.replica r
-    (λ e. subst (λ (j : ℕ). Spoke w' j (after_taking (w.replica s.r) s.m)) (sym e) (spoke_taking w' p.firsts s.r (w.replica s.r) s.m (λ m i. subst (λ (l : List Envelope). IsIn m l) (sym s.mail) (IsIn-right m w.mail _ i)) (spoke_grows p w w' (Replica_acts s) s.r _ (spoke_reach p w q s.r))))
-    (spoke_grows p w w' (Replica_acts s) r _ (spoke_reach p w q r)))
+spoke_reach p = on_replicas p Spoke (λ r. record { votes = λ c i. absurd i; accepts = λ a i. absurd i }) (λ w w' st. spoke_grows p w w' st)
+    (λ w w' q s. spoke_taking w' p.firsts s.r (w.replica s.r) s.m (λ m i. subst (λ (l : List Envelope). IsIn m l) (sym s.mail) (IsIn-right m w.mail _ i)))
 
 pub answers_tell : AnswersTell
 answers_tell = always_of_any AnswersTellOf (λ p w q. record {

@@ -25,6 +25,7 @@ use Rattle.law_safety.proofs.BaseIsOne.{base_one}
 use Rattle.law_safety.proofs.DropSettles.{drop_settles_now}
 use Rattle.law_safety.proofs.BaseOfWorld.{base_is}
 use Rattle.law_steps.proofs.AlwaysLemmas.{always}
+use Rattle.law_steps.proofs.Induction.{on_worlds}
 
 base_rising : (w : World) (v : Version) (t : Truncation) (k : ℕ) → IsRising (base_of v (w.warden k) t.answers)
 unfolding base_of
@@ -54,12 +55,11 @@ module _ (p : Plan) (pos : 0 < p.replicas) (w : World) (q : Reach p w) where
 
 -- what is locked stays locked
 lock_later : (p : Plan) → 0 < p.replicas → (o w : World) → Reach p o → From p o w → (x : Exec) → AbandonLock p.replicas o x → AbandonLock p.replicas w x
-lock_later p pos o _ r Begins x l = l
-lock_later p pos o _ r (Next w w' f s) x l = let q = from_trans p first_world o w r f in abandon_lock_stays p w w' q s (commit_ground p pos w q (safe_reach p pos w q)) x (lock_later p pos o w r f x l)
+lock_later p pos o w r f x l = on_worlds p o (λ v. AbandonLock p.replicas v x) l
+    (λ u v g st k. let q = from_trans p first_world o u r g in abandon_lock_stays p u v q st (commit_ground p pos u q (safe_reach p pos u q)) x k) w f
 
 pub sent_later : (p : Plan) (o w : World) → From p o w → (b : Body) → WasSent o b → WasSent w b
-sent_later p o _ Begins b t = t
-sent_later p o _ (Next w w' f s) b t = sent_grows p w w' s b (sent_later p o w f b t)
+sent_later p o w f b t = on_worlds p o (λ v. WasSent v b) t (λ u v g st k. sent_grows p u v st b k) w f
 
 -- the base of a Drop stays the base, and nothing at or below its version is committed later
 pub drop_kept : (p : Plan) (pos : 0 < p.replicas) (w w' : World) (q : Reach p w) (f : From p w w') (q' : Reach p w') (v : Version) (bs : List BaseEntry) → WasSent w (Drops v bs) →

@@ -11,18 +11,18 @@ use Rattle.protocol.specs.Client.Deciding.{content_for}
 use Rattle.protocol.specs.Client.State.Phase.{Between, Running, Prepared}
 use Rattle.protocol.specs.World.State.{Plan, World, rules}
 use Rattle.protocol.specs.World.Events.{to_all}
-use Rattle.protocol.proofs.ListsLemmas.{IsIn-left, IsIn-right, IsIn-cases, at_cases, map_in}
+use Rattle.protocol.proofs.ListsLemmas.{IsIn-left, IsIn-right, IsIn-cases, map_in}
 use Rattle.protocol.proofs.DistinctLemmas.{distinct_more, distinct_map_more, absent}
 use Rattle.std.proofs.lemmas.List.{map-id}
 use Rattle.protocol.specs.Quorums.{HasNoRepeats}
 use Rattle.law_steps.proofs.ClientActs.{ClientAct, IsRunning, SameStage}
 use Rattle.law_steps.proofs.ClientActs.ClientAct.{Quiet, Advances, Prepares, Counts, Proposes, Accepts, Decides, Gives_up, Learns}
 use Rattle.law_steps.proofs.Reach.{Step, Reach, ByClientAct, GotAt}
-use Rattle.law_steps.proofs.Reach.Step.{Stands, Client_acts, Replica_acts, Warden_acts}
-use Rattle.law_steps.proofs.Reach.From.{Begins, Next}
+use Rattle.law_steps.proofs.Reach.Step.{Client_acts}
 use Rattle.law_steps.proofs.ReplicaFacts.{RFact, AcceptedFact, facts_reach}
 use Rattle.protocol.specs.World.Decided.{WasSent}
 use Rattle.law_safety.proofs.LocksLemmas.{sent_grows, replica_grows, voted_grows}
+use Rattle.law_steps.proofs.Induction.{on_clients}
 
 pub absent_id : (j : ℕ) (xs : List ℕ) → list_any (λ i. i == j) xs ≡ false → IsIn j xs → ⊥
 absent_id j xs e i = absent (λ z. z) j xs e (rw map-id i)
@@ -139,13 +139,8 @@ act_sent : (p : Plan) (w w' : World) (s : ByClientAct p w w') → 0 < p.replicas
 act_sent p w w' s pos b i = let k = to_all_one p.replicas (Client s.c) s.sent b pos i in record { envelope = k.0; there = rw s.mail (IsIn-right k.0 w.mail _ k.1); body = k.2 }
 
 pub evident_reach : (p : Plan) → 0 < p.replicas → (w : World) → Reach p w → (c : ℕ) → Evident p.replicas w (w.client c)
-evident_reach p pos _ Begins c = record { phase = λ k vs o acs h. cc }
-evident_reach p pos _ (Next w w' q (Stands s)) c = subst (λ (f : ℕ → ClientState). Evident p.replicas w' (f c)) (sym s.client) (evident_grows p w w' (Stands s) (w.client c) (evident_reach p pos w q c))
-evident_reach p pos _ (Next w w' q (Replica_acts s)) c = subst (λ (f : ℕ → ClientState). Evident p.replicas w' (f c)) (sym s.client) (evident_grows p w w' (Replica_acts s) (w.client c) (evident_reach p pos w q c))
-evident_reach p pos _ (Next w w' q (Warden_acts s)) c = subst (λ (f : ℕ → ClientState). Evident p.replicas w' (f c)) (sym s.client) (evident_grows p w w' (Warden_acts s) (w.client c) (evident_reach p pos w q c))
-evident_reach p pos _ (Next w w' q (Client_acts s)) c = subst (λ (f : ℕ → ClientState). Evident p.replicas w' (f c)) (sym s.client) (at_cases (Evident p.replicas w') s.c s.state w.client c
-    (λ e. act_evident p w w' q (Client_acts s) s.c s.state s.sent (act_sent p w w' s pos) s.act (evident_grows p w w' (Client_acts s) (w.client s.c) (evident_reach p pos w q s.c)))
-    (evident_grows p w w' (Client_acts s) (w.client c) (evident_reach p pos w q c)))
+evident_reach p pos = on_clients p (λ w c s. Evident p.replicas w s) (λ c. record { phase = λ k vs o acs h. cc }) (λ w w' st c. evident_grows p w w' st)
+    (λ w w' q s. act_evident p w w' q (Client_acts s) s.c s.state s.sent (act_sent p w w' s pos) s.act)
 
 -- a client's decision was sent
 pub record DecisionsSent (w : World) (s : ClientState) : Type 0 where
@@ -175,10 +170,5 @@ act_decisions p w w' st c s sent new a t = go a
     go (Learns act) = more (record { exec = (w.client c).exec; choice = act.choice }) act.decisions act.content (sent_grows p w w' st _ (record { envelope = act.got.0; there = act.got.1; body = act.got.4 }))
 
 pub decisions_reach : (p : Plan) → 0 < p.replicas → (w : World) → Reach p w → (c : ℕ) → DecisionsSent w (w.client c)
-decisions_reach p pos _ Begins c = record { sent = λ d i. absurd i }
-decisions_reach p pos _ (Next w w' q (Stands s)) c = subst (λ (f : ℕ → ClientState). DecisionsSent w' (f c)) (sym s.client) (decisions_grow p w w' (Stands s) (w.client c) (decisions_reach p pos w q c))
-decisions_reach p pos _ (Next w w' q (Replica_acts s)) c = subst (λ (f : ℕ → ClientState). DecisionsSent w' (f c)) (sym s.client) (decisions_grow p w w' (Replica_acts s) (w.client c) (decisions_reach p pos w q c))
-decisions_reach p pos _ (Next w w' q (Warden_acts s)) c = subst (λ (f : ℕ → ClientState). DecisionsSent w' (f c)) (sym s.client) (decisions_grow p w w' (Warden_acts s) (w.client c) (decisions_reach p pos w q c))
-decisions_reach p pos _ (Next w w' q (Client_acts s)) c = subst (λ (f : ℕ → ClientState). DecisionsSent w' (f c)) (sym s.client) (at_cases (DecisionsSent w') s.c s.state w.client c
-    (λ e. act_decisions p w w' (Client_acts s) s.c s.state s.sent (act_sent p w w' s pos) s.act (decisions_grow p w w' (Client_acts s) (w.client s.c) (decisions_reach p pos w q s.c)))
-    (decisions_grow p w w' (Client_acts s) (w.client c) (decisions_reach p pos w q c)))
+decisions_reach p pos = on_clients p (λ w c. DecisionsSent w) (λ c. record { sent = λ d i. absurd i }) (λ w w' st c. decisions_grow p w w' st)
+    (λ w w' q s. act_decisions p w w' (Client_acts s) s.c s.state s.sent (act_sent p w w' s pos) s.act)

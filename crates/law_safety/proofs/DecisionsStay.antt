@@ -11,10 +11,8 @@ use Rattle.protocol.specs.World.State.{Plan, World, first_world, warden_rules}
 use Rattle.protocol.specs.World.Events.{replay_from}
 use Rattle.protocol.specs.World.Decided.{decided_by, WasSent}
 use Rattle.protocol.proofs.ReplicaGrows.{decided_stays}
-use Rattle.protocol.proofs.ListsLemmas.{at_cases}
 use Rattle.law_steps.proofs.KnownLemmas.{mapped_some, found, some_from}
 use Rattle.law_steps.proofs.Reach.{Step, Reach, From, from_trans, events_reach, HeardAt}
-use Rattle.law_steps.proofs.Reach.Step.{Stands, Client_acts, Replica_acts, Warden_acts}
 use Rattle.law_steps.proofs.Reach.From.{Begins, Next}
 use Rattle.law_steps.proofs.WardenFacts.{ward_stays, wrec_reach, wardens_positive, wardens_range}
 use Rattle.law_safety.specs.Agreement.{DecisionsStay, DecisionsStayOf}
@@ -24,15 +22,13 @@ use Rattle.law_safety.proofs.TruncationSettles.{apart_locks}
 use Rattle.law_safety.proofs.InvariantHolds.{safe_reach}
 use Rattle.law_safety.proofs.CommitIsSent.{decided_by_sent, find_in}
 use Rattle.law_steps.proofs.AlwaysLemmas.{always}
+use Rattle.law_steps.proofs.Induction.{warden_in_step, on_worlds}
 
 -- what a warden decided stays
-ward_decision_grows : (p : Plan) (w w' : World) → Reach p w → Step p w w' → (k : ℕ) (x : Exec) (d : Choice) (o : Option Content) → IsIn (record { exec = x; proposal = record { choice = d; content = o } }) (w.warden k).decisions → IsIn (record { exec = x; proposal = record { choice = d; content = o } }) (w'.warden k).decisions
-ward_decision_grows p w w' q (Stands s) k x d o i = subst (λ (f : ℕ → WardenState). IsIn (record { exec = x; proposal = record { choice = d; content = o } }) (f k).decisions) (sym s.warden) i
-ward_decision_grows p w w' q (Client_acts s) k x d o i = subst (λ (f : ℕ → WardenState). IsIn (record { exec = x; proposal = record { choice = d; content = o } }) (f k).decisions) (sym s.warden) i
-ward_decision_grows p w w' q (Replica_acts s) k x d o i = subst (λ (f : ℕ → WardenState). IsIn (record { exec = x; proposal = record { choice = d; content = o } }) (f k).decisions) (sym s.warden) i
-ward_decision_grows p w w' q (Warden_acts s) k x d o i = subst (λ (f : ℕ → WardenState). IsIn (record { exec = x; proposal = record { choice = d; content = o } }) (f k).decisions) (sym s.warden)
-    (at_cases (λ (z : WardenState). IsIn (record { exec = x; proposal = record { choice = d; content = o } }) z.decisions) s.k s.state w.warden k
-    (λ e. ward_stays (warden_rules p s.k) (HeardAt w s.k) (w.warden s.k) s.state s.sent (wardens_positive s.k p.wardens s.real) (wardens_range s.k p.wardens s.real) s.act (wrec_reach p w q s.k) (Decide x d o) (subst (λ (j : ℕ). IsIn (record { exec = x; proposal = record { choice = d; content = o } }) (w.warden j).decisions) e i)) i)
+ward_decision_grows : (p : Plan) (w w' : World) → Reach p w → Step p w w' → (k : ℕ) (x : Exec) (d : Choice) (o : Option Content) →
+    IsIn (record { exec = x; proposal = record { choice = d; content = o } }) (w.warden k).decisions → IsIn (record { exec = x; proposal = record { choice = d; content = o } }) (w'.warden k).decisions
+ward_decision_grows p w w' q st k x d o = warden_in_step p w w' st (λ j s. IsIn (record { exec = x; proposal = record { choice = d; content = o } }) s.decisions)
+    (λ s. ward_stays (warden_rules p s.k) (HeardAt w s.k) (w.warden s.k) s.state s.sent (wardens_positive s.k p.wardens s.real) (wardens_range s.k p.wardens s.real) s.act (wrec_reach p w q s.k) (Decide x d o)) k
 
 -- the newest decision of a list that has one
 client_finds : (x : Exec) (d : Choice) (ds : List Decision) → IsIn (record { exec = x; choice = d }) ds → (e : Choice) × (option_map (λ (y : Decision). y.choice) (find (λ (y : Decision). same_exec x y.exec) ds) ≡ Some e)
@@ -73,8 +69,8 @@ module _ (p : Plan) (pos : 0 < p.replicas) where
       f.1 ∙ ap Some (sym (one_choice w' q' x d f.0 old.0 new.0 (sent_grows p w w' st _ old.1) new.1))
 
   decision_later : (o w : World) → Reach p o → From p o w → (n : NodeId) (x : Exec) (d : Choice) → decided_by o n x ≡ Some d → decided_by w n x ≡ Some d
-  decision_later o _ r Begins n x d e = e
-  decision_later o _ r (Next w w' f s) n x d e = decision_stays w w' (from_trans p first_world o w r f) s n x d (decision_later o w r f n x d e)
+  decision_later o w r f n x d = on_worlds p o (λ v. decided_by o n x ≡ Some d → decided_by v n x ≡ Some d) (λ e. e)
+      (λ u v g st k e. decision_stays u v (from_trans p first_world o u r g) st n x d (k e)) w f
 
 pub decisions_stay : DecisionsStay
 decisions_stay = always DecisionsStayOf (λ p some w q more n x choice e. decision_later p some w (replay_from p w more) q (events_reach p w w Begins more) n x choice e)

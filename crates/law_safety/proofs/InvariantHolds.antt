@@ -10,13 +10,12 @@ use Rattle.protocol.specs.World.State.{Plan, World, rules, warden_rules}
 use Rattle.protocol.specs.World.Decided.{WasSent, UpTo}
 use Rattle.law_safety.proofs.OneContent.{same_prepared}
 use Rattle.protocol.proofs.ReplicaGrows.{decided_stays}
-use Rattle.protocol.proofs.ListsLemmas.{IsIn-cases, at_cases}
+use Rattle.protocol.proofs.ListsLemmas.{IsIn-cases}
 use Rattle.protocol.specs.Quorums.{Quorum}
 use Rattle.protocol.proofs.QuorumsLemmas.{quorums_meet}
 use Rattle.law_steps.proofs.VotesLemmas.{new_vote, verdict_commit, earlier_settled, final_conflict, conflicts_both_ways, no_conflict_alike}
 use Rattle.law_steps.proofs.MailLemmas.{took_reach}
 use Rattle.law_steps.proofs.Reach.{Step, Reach, GotAt, HeardAt}
-use Rattle.law_steps.proofs.Reach.Step.{Stands, Client_acts, Replica_acts, Warden_acts}
 use Rattle.law_steps.proofs.Reach.From.{Begins, Next}
 use Rattle.law_steps.proofs.ReplicaFacts.{well_reach, taking_reach}
 use Rattle.law_safety.proofs.OneProposal.{one_reach}
@@ -35,6 +34,7 @@ use Rattle.law_steps.proofs.TakenLemmas.{takes_above, cast_is, cast_above_none, 
 use Rattle.law_safety.proofs.BaseEntries.{HasEntry, Written, entry_conflict, dropped_conflict, dropped_sent}
 use Rattle.law_safety.proofs.ShapedBodies.{commit_sent, client_no_drop, ward_dropped}
 use Rattle.law_safety.proofs.TruncationSettles.{commit_prepared, apart_locks, CommitSent, each_or, is_commit, cut_now, base_holds, base_written}
+use Rattle.law_steps.proofs.Induction.{replica_in_step}
 
 module _ (p : Plan) (pos : 0 < p.replicas) where
   -- the content of a commit is that of the cast
@@ -93,11 +93,7 @@ module _ (p : Plan) (pos : 0 < p.replicas) where
       go false e = t
 
   two_step : (w w' : World) (q : Reach p w) → Step p w w' → Safe p.replicas w → ((r : ℕ) → IsTwo (w.replica r)) → (r : ℕ) → IsTwo (w'.replica r)
-  two_step w w' q (Stands s) z t r = subst (λ (f : ℕ → Handled). IsTwo (f r)) (sym s.replica) (t r)
-  two_step w w' q (Client_acts s) z t r = subst (λ (f : ℕ → Handled). IsTwo (f r)) (sym s.replica) (t r)
-  two_step w w' q (Warden_acts s) z t r = subst (λ (f : ℕ → Handled). IsTwo (f r)) (sym s.replica) (t r)
-  two_step w w' q (Replica_acts s) z t r = subst (λ (f : ℕ → Handled). IsTwo (f r)) (sym s.replica)
-      (at_cases (λ (h : Handled). IsTwo h) s.r (after_taking (w.replica s.r) s.m) w.replica r (λ e. two_taking w q z s.r s.m (t s.r)) (t r))
+  two_step w w' q st z t r = replica_in_step p w w' st (λ j. IsTwo) (λ s. two_taking w q z s.r s.m) r (t r)
 
   -- of two votes for Commit in conflict at one replica, Abandon of one is locked
   set_apart_lock : (w : World) (q : Reach p w) → Safe p.replicas w → (r : ℕ) (c d : Cast) → IsIn c (casts (w.replica r)) → conflicts d.exec.ver d.content c.exec.ver c.content ≡ true → SetApart (w.replica r) c d → AbandonLock p.replicas w c.exec
@@ -173,11 +169,7 @@ module _ (p : Plan) (pos : 0 < p.replicas) where
       go false e = s.final x r e
 
   final_before : (w w' : World) (q : Reach p w) → Step p w w' → Safe p.replicas w → AllTwo w → (x : Exec) (r : ℕ) → vote (w'.replica r) x ≡ Some Final → AbandonLock p.replicas w x
-  final_before w w' q (Stands t) s two x r e = s.final x r (subst (λ (f : ℕ → Handled). vote (f r) x ≡ Some Final) t.replica e)
-  final_before w w' q (Client_acts t) s two x r e = s.final x r (subst (λ (f : ℕ → Handled). vote (f r) x ≡ Some Final) t.replica e)
-  final_before w w' q (Warden_acts t) s two x r e = s.final x r (subst (λ (f : ℕ → Handled). vote (f r) x ≡ Some Final) t.replica e)
-  final_before w w' q (Replica_acts t) s two x r e = at_cases (λ (h : Handled). vote h x ≡ Some Final → AbandonLock p.replicas w x) t.r (after_taking (w.replica t.r) t.m) w.replica r
-      (λ z e. final_taking w q s two x t.r t.m t.in_mail e) (λ e. s.final x r e) (subst (λ (f : ℕ → Handled). vote (f r) x ≡ Some Final) t.replica e)
+  final_before w w' q st s two x r = replica_in_step p w w' st (λ j h. vote h x ≡ Some Final → AbandonLock p.replicas w x) (λ t k. final_taking w q s two x t.r t.m t.in_mail) r (s.final x r)
 
   -- Drops
   module _ (w w' : World) (q : Reach p w) (st : Step p w w') (s : Safe p.replicas w) where

@@ -1,4 +1,4 @@
-use Rattle.std.proofs.Common.{◌≡◌, ℕ, ◌<◌, ◌≤◌, ◌⊎◌, ◌≢◌, inl, inr, refl, ap, sym, ◌∙◌, subst, true, false, Bool, cond, List, [], ◌∷◌, Option, Some, None, arith}
+use Rattle.std.proofs.Common.{◌≡◌, ℕ, ◌<◌, ◌≤◌, ◌⊎◌, ◌≢◌, inl, inr, refl, ap, sym, ◌∙◌, true, false, Bool, cond, List, [], ◌∷◌, Option, Some, None, arith}
 use Rattle.std.specs.Prelude.{option_map}
 use Rattle.protocol.specs.Words.{Exec, Envelope, Body, Content, Vote, Commit, Choice, Abandon, ToCommit, Prepare, Finalize, same_exec}
 use Rattle.protocol.specs.Lists.{IsIn}
@@ -13,14 +13,14 @@ use Rattle.law_safety.specs.Locks.AbandonLock.{Accepted_abandon, All_shut}
 use Rattle.law_safety.specs.Locks.CommitLock.{Accepted_commit, Fast}
 use Rattle.protocol.proofs.NamesLemmas.{same_exec_tells}
 use Rattle.protocol.proofs.ReplicaGrows.{cast_stays}
-use Rattle.protocol.proofs.ListsLemmas.{IsIn-right, IsIn-cases, IsIn-one_when, at_cases}
+use Rattle.protocol.proofs.ListsLemmas.{IsIn-right, IsIn-cases, IsIn-one_when}
 use Rattle.protocol.specs.Quorums.{Quorum}
 use Rattle.protocol.proofs.QuorumsLemmas.{quorums_meet}
 use Rattle.law_steps.proofs.AcceptorLemmas.{acceptance_taken}
 use Rattle.law_steps.proofs.Reach.{Step, Reach}
-use Rattle.law_steps.proofs.Reach.Step.{Stands, Client_acts, Replica_acts, Warden_acts}
 use Rattle.law_steps.proofs.MailLemmas.{took_reach, mail_grows}
 use Rattle.law_safety.proofs.OneProposal.{one_view}
+use Rattle.law_steps.proofs.Induction.{replica_in_step}
 
 -- what more envelopes keep of a list, taking keeps, and each step keeps of each replica's
 pub taking_grows : (F : Handled → Type 0) → ((h : Handled) (m : Envelope) → F h → F (m ∷ h)) → (h : Handled) (m : Envelope) → F h → F (after_taking h m)
@@ -32,10 +32,7 @@ taking_grows F g h m f = go (takes h m.body)
     go false = f
 
 pub replica_grows : (p : Plan) (w w' : World) → Step p w w' → (F : Handled → Type 0) → ((h : Handled) (m : Envelope) → F h → F (m ∷ h)) → (r : ℕ) → F (w.replica r) → F (w'.replica r)
-replica_grows p w w' (Stands s) F g r f = rw s.replica f
-replica_grows p w w' (Client_acts s) F g r f = rw s.replica f
-replica_grows p w w' (Warden_acts s) F g r f = rw s.replica f
-replica_grows p w w' (Replica_acts s) F g r f = rw s.replica (at_cases F s.r (after_taking (w.replica s.r) s.m) w.replica r (λ e. taking_grows F g (w.replica s.r) s.m (subst (λ j. F (w.replica j)) e f)) f)
+replica_grows p w w' st F g = replica_in_step p w w' st (λ r h. F h) (λ s. taking_grows F g (w.replica s.r) s.m)
 
 pub vote_cons : (h : Handled) (m : Envelope) (x : Exec) (v : Vote) → vote h x ≡ Some v → vote (m ∷ h) x ≡ Some v
 vote_cons h m x v e = let k = option_cast (cast_on x (casts h)) e in rw (cast_stays h m x k.0 k.1) (ap Some k.2)

@@ -11,12 +11,11 @@ use Rattle.protocol.specs.Client.State.Phase.{Between}
 use Rattle.protocol.specs.World.State.{Plan, World, rules}
 use Rattle.protocol.proofs.TestLemmas.{and_right, some_not_none}
 use Rattle.protocol.proofs.ReplicaGrows.{decided_stays, promised_grows}
-use Rattle.protocol.proofs.ListsLemmas.{IsIn-right, IsIn-cases, at_cases}
+use Rattle.protocol.proofs.ListsLemmas.{IsIn-right, IsIn-cases}
 use Rattle.law_steps.proofs.AcceptorLemmas.{vote_stands, vote_frozen, new_acceptance_is}
 use Rattle.law_steps.proofs.PhaseLemmas.{running_under_way, open_under, running_between, open_between}
 use Rattle.law_steps.specs.Executions.{IsEarlier, Over}
 use Rattle.law_steps.proofs.Reach.{Step, Reach, GotAt}
-use Rattle.law_steps.proofs.Reach.Step.{Stands, Client_acts, Replica_acts, Warden_acts}
 use Rattle.law_steps.proofs.Reach.From.{Next}
 use Rattle.law_steps.proofs.ReplicaFacts.{well_reach, taking_reach}
 use Rattle.law_steps.proofs.VotesLemmas.{new_vote, verdict_commit, earlier_settled}
@@ -37,22 +36,17 @@ use Rattle.law_safety.specs.Locks.AbandonLock.{Accepted_abandon, All_shut}
 use Rattle.law_safety.specs.Locks.CommitLock.{Accepted_commit, Fast}
 use Rattle.law_steps.proofs.Origin.{Origin, origin}
 use Rattle.law_steps.proofs.Origin.Origin.{Old, Of_replica, Of_client, Of_warden}
+use Rattle.law_steps.proofs.Induction.{client_in_step, replica_in_step}
+use Rattle.protocol.specs.World.Steps.{ByReplica}
 
 -- what a client decided stays
 pub decision_grows : (p : Plan) (w w' : World) → Step p w w' → (c : ℕ) (x : Exec) (d : Choice) → IsIn (record { exec = x; choice = d }) (w.client c).decisions → IsIn (record { exec = x; choice = d }) (w'.client c).decisions
-decision_grows p w w' (Stands s) c x d i = rw s.client i
-decision_grows p w w' (Replica_acts s) c x d i = rw s.client i
-decision_grows p w w' (Warden_acts s) c x d i = rw s.client i
-decision_grows p w w' (Client_acts s) c x d i = rw s.client (at_cases (λ (z : ClientState). IsIn (record { exec = x; choice = d }) z.decisions) s.c s.state w.client c
-    (λ e. said_stays (rules p s.c) (GotAt w s.c) (w.client s.c) s.state s.sent s.act (Decide x d None) (subst (λ (j : ℕ). IsIn (record { exec = x; choice = d }) (w.client j).decisions) e i)) i)
+decision_grows p w w' st c x d = client_in_step p w w' st (λ c s. IsIn (record { exec = x; choice = d }) s.decisions)
+    (λ s. said_stays (rules p s.c) (GotAt w s.c) (w.client s.c) s.state s.sent s.act (Decide x d None)) c
 
 -- what is over stays over
 pub over_grows : (p : Plan) (w w' : World) → Step p w w' → (x : Exec) (c : ℕ) → Over x (w.client c) → Over x (w'.client c)
-over_grows p w w' (Stands s) x c o = rw s.client o
-over_grows p w w' (Replica_acts s) x c o = rw s.client o
-over_grows p w w' (Warden_acts s) x c o = rw s.client o
-over_grows p w w' (Client_acts s) x c o = rw s.client (at_cases (λ z. Over x z) s.c s.state w.client c
-    (λ e. act_over (rules p s.c) (GotAt w s.c) (w.client s.c) s.state s.sent s.act x (subst (λ z. Over x (w.client z)) e o)) o)
+over_grows p w w' st x = client_in_step p w w' st (λ c. Over x) (λ s. act_over (rules p s.c) (GotAt w s.c) (w.client s.c) s.state s.sent s.act x)
 
 not_over : (x : Exec) (s : ClientState) → x ≡ s.exec → (s.phase ≡ Between → ⊥) → Over x s → ⊥
 not_over x s e b (inl h) = earlier_itself s.exec (subst (λ z. IsEarlier z s.exec) e h)
@@ -111,27 +105,23 @@ cast_sent p w q r c i = let m = cast_prepare (w.replica r) c i in record { envel
 -- who voted Commit on something committed in conflict with x, and not on x, does not vote Commit on x
 not_voted : (p : Plan) (w w' : World) → Reach p w → Step p w w' → CommitGround w → (x : Exec) (r : ℕ) (k : Content) → WasSent w (Prepare x k) → (c : Cast) → IsIn c (casts (w.replica r)) → c.vote ≡ Commit → conflicts x.ver k c.exec.ver c.content ≡ true → (o : Option Content) → WasSent w (Decide c.exec ToCommit o)
     → vote (w.replica r) x ≢ Some Commit → vote (w'.replica r) x ≢ Some Commit
-not_voted p w w' q (Stands s) a x r k t c i v f o d n = subst (λ (g : ℕ → Handled). vote (g r) x ≢ Some Commit) (sym s.replica) n
-not_voted p w w' q (Client_acts s) a x r k t c i v f o d n = subst (λ (g : ℕ → Handled). vote (g r) x ≢ Some Commit) (sym s.replica) n
-not_voted p w w' q (Warden_acts s) a x r k t c i v f o d n = subst (λ (g : ℕ → Handled). vote (g r) x ≢ Some Commit) (sym s.replica) n
-not_voted p w w' q (Replica_acts s) a x r k t c i v f o d n = subst (λ (g : ℕ → Handled). vote (g r) x ≢ Some Commit) (sym s.replica)
-    (at_cases (λ (h : Handled). vote h x ≢ Some Commit) s.r (after_taking (w.replica s.r) s.m) w.replica r (λ e. subst (λ (j : ℕ). vote (after_taking (w.replica j) s.m) x ≢ Some Commit) e taken) n)
+not_voted p w w' q st a x r k t c i v f o d n = replica_in_step p w w' st (λ j h. j ≡ r → vote h x ≢ Some Commit) (λ s z. taken s) r (λ z. n) refl
   where
-    cons : takes (w.replica r) s.m.body ≡ true → vote (s.m ∷ w.replica r) x ≡ Some Commit → ⊥
-    cons tk e = elim (new_vote (w.replica r) s.m x Commit e) [
+    cons : (m : Envelope) → IsIn m w.mail → takes (w.replica r) m.body ≡ true → vote (m ∷ w.replica r) x ≡ Some Commit → ⊥
+    cons m there tk e = elim (new_vote (w.replica r) m x Commit e) [
       | inl z ↦ n z
-      | inr z ↦ let same : z.0 ≡ k = (one_reach p w q).prepare s.m t.envelope x z.0 k s.in_mail t.there z.1 t.body in
+      | inr z ↦ let same : z.0 ≡ k = (one_reach p w q).prepare m t.envelope x z.0 k there t.there z.1 t.body in
           let verd : verdict (w.replica r) (casts (w.replica r)) x k ≡ Commit = subst (λ (y : Content). verdict (w.replica r) (casts (w.replica r)) x y ≡ Commit) same z.2 in
           elim (earlier_settled (w.replica r) x k c (well_reach p w q r) (a.content r c i) i v f verd) [
             | inl g ↦ let b = decided_sent p w q c.exec Abandon r g in a.agree c.exec b.0 o b.1 d
-            | inr u ↦ true_false (sym (dropped_conflict w a.bases (w.replica r) (λ m j. ((took_reach p w q).took r m j).0) x k
-                (subst (λ (b : Body). is_above (dropped (w.replica r)) (version_of b) ≡ true) z.1 (takes_above (w.replica r) s.m.body tk))
+            | inr u ↦ true_false (sym (dropped_conflict w a.bases (w.replica r) (λ n j. ((took_reach p w q).took r n j).0) x k
+                (subst (λ (b : Body). is_above (dropped (w.replica r)) (version_of b) ≡ true) z.1 (takes_above (w.replica r) m.body tk))
                 c.exec c.content o d (cast_sent p w q r c i) (cast_above_none (w.replica r) (taking_reach p w q r) c i) u f) ∙ (verdict_commit (w.replica r) (casts (w.replica r)) x k verd).base)
           ]
     ]
 
-    taken : vote (after_taking (w.replica r) s.m) x ≢ Some Commit
-    taken = taking_cases_vote (w.replica r) s.m x n cons
+    taken : (s : ByReplica p w w') → s.r ≡ r → vote (after_taking (w.replica s.r) s.m) x ≢ Some Commit
+    taken s e = subst (λ j. vote (after_taking (w.replica j) s.m) x ≢ Some Commit) (sym e) (taking_cases_vote (w.replica r) s.m x n (cons s.m s.in_mail))
 
 -- with a fence nothing is voted Commit any more
 fenced_vote : (h : Handled) (m : Envelope) (x : Exec) → vote h x ≢ Some Commit → UpTo x.ver (fence h) → vote (m ∷ h) x ≢ Some Commit

@@ -3,20 +3,19 @@ use Rattle.std.proofs.Common.{◌≡◌, ℕ, ◌<◌, inl, inr, refl, ap, sym, 
 use Rattle.protocol.specs.Words.{Exec, Envelope, Body, Content, Choice, Abandon, ToCommit, Prepare, Finalize, Decide, Told, Fenced, Kept}
 use Rattle.std.specs.Option.{option_or}
 use Rattle.protocol.specs.Lists.{IsIn}
-use Rattle.protocol.specs.Replica.Taken.{Handled, after_taking}
+use Rattle.protocol.specs.Replica.Taken.{Handled}
 use Rattle.protocol.specs.Client.State.{CountedVote}
 use Rattle.protocol.specs.Client.Deciding.{content_for}
 use Rattle.protocol.specs.Client.State.Phase.{Prepared}
 use Rattle.protocol.specs.Warden.State.{WardenState, Round, ToldAnswer, Proposal, Parcel}
 use Rattle.protocol.specs.Warden.Recovery.{fixed, with_content, told_content}
-use Rattle.protocol.specs.World.State.{Plan, World, rules, warden_rules}
+use Rattle.protocol.specs.World.State.{Plan, World, rules, warden_rules, first_world}
 use Rattle.law_steps.proofs.ClientActs.{ClientAct, IsQuiet}
 use Rattle.law_steps.proofs.ClientActs.ClientAct.{Quiet, Advances, Prepares, Counts, Proposes, Accepts, Decides, Gives_up, Learns}
 use Rattle.law_safety.proofs.ChoiceOfTolds.{chosen}
-use Rattle.protocol.proofs.ListsLemmas.{at_cases, at_same, IsIn-right}
-use Rattle.law_steps.proofs.Reach.Step.{Stands, Client_acts, Replica_acts, Warden_acts}
+use Rattle.protocol.proofs.ListsLemmas.{at_same, IsIn-right}
 use Rattle.law_steps.proofs.Reach.{Step, Reach, ByClientAct, ByWardenAct, GotAt, HeardAt}
-use Rattle.law_steps.proofs.Reach.From.{Begins, Next}
+use Rattle.law_steps.proofs.Reach.From.{Next}
 use Rattle.protocol.specs.World.Decided.{HasContent, WasSent}
 use Rattle.law_steps.proofs.KnownLemmas.{Took, commit_taken, cast_taken}
 use Rattle.law_steps.proofs.FencedFacts.{kept_voted}
@@ -34,6 +33,7 @@ use Rattle.law_safety.proofs.WardenSent.{ward_decided}
 use Rattle.law_safety.specs.Invariants.{OneContent, OneContentOf}
 use Rattle.law_safety.proofs.OneProposal.{one_reach}
 use Rattle.law_steps.proofs.AlwaysLemmas.{always}
+use Rattle.law_steps.proofs.Induction.{replica_in_step, on_worlds}
 
 -- each content in the mail is that of a Prepare
 pub record Prepared_contents (w : World) : Type 0 where
@@ -62,12 +62,9 @@ content_for_is k l Abandon e = cc
 
 -- what a replica has after a step was in the mail before it
 took_before : (p : Plan) (w w' : World) → Reach p w → Step p w w' → (r : ℕ) (m : Envelope) → IsIn m (w'.replica r) → IsIn m w.mail
-took_before p w w' q (Stands s) r m i = ((took_reach p w q).took r m (subst (λ (f : ℕ → Handled). IsIn m (f r)) s.replica i)).0
-took_before p w w' q (Client_acts s) r m i = ((took_reach p w q).took r m (subst (λ (f : ℕ → Handled). IsIn m (f r)) s.replica i)).0
-took_before p w w' q (Warden_acts s) r m i = ((took_reach p w q).took r m (subst (λ (f : ℕ → Handled). IsIn m (f r)) s.replica i)).0
-took_before p w w' q (Replica_acts s) r m i = at_cases (λ (h : Handled). IsIn m h → IsIn m w.mail) s.r (after_taking (w.replica s.r) s.m) w.replica r
-    (λ e j. elim (taking_cases (w.replica s.r) s.m m j) [ inl z ↦ subst (λ (y : Envelope). IsIn y w.mail) (sym z) s.in_mail | inr k ↦ ((took_reach p w q).took s.r m k).0 ])
-    (λ j. ((took_reach p w q).took r m j).0) (subst (λ (f : ℕ → Handled). IsIn m (f r)) s.replica i)
+took_before p w w' q st r m = replica_in_step p w w' st (λ j h. IsIn m h → IsIn m w.mail)
+    (λ s k j. elim (taking_cases (w.replica s.r) s.m m j) [ inl z ↦ subst (λ (y : Envelope). IsIn y w.mail) (sym z) s.in_mail | inr i ↦ k i ])
+    r (λ i. ((took_reach p w q).took r m i).0)
 
 module _ (p : Plan) (pos : 0 < p.replicas) (w w' : World) (q : Reach p w) (st : Step p w w') (c : Prepared_contents w) where
   grown : (x : Exec) (k : Content) → WasSent w (Prepare x k) → WasSent w' (Prepare x k)
@@ -152,8 +149,8 @@ module _ (p : Plan) (pos : 0 < p.replicas) (w w' : World) (q : Reach p w) (st : 
       go (Of_replica r f) = replica_content r b x k f h
 
 pub contents_reach : (p : Plan) → 0 < p.replicas → (w : World) → Reach p w → Prepared_contents w
-contents_reach p pos _ Begins = record { from = λ b x k h t. absurd t.there }
-contents_reach p pos _ (Next w w' q st) = record { from = contents_step p pos w w' q st (contents_reach p pos w q) }
+contents_reach p pos = on_worlds p first_world Prepared_contents (record { from = λ b x k h t. absurd t.there })
+    (λ w w' q st c. record { from = contents_step p pos w w' q st c })
 
 -- all Prepares of an execution carry one content
 pub same_prepared : (p : Plan) (w : World) → Reach p w → (x : Exec) (k l : Content) → WasSent w (Prepare x k) → WasSent w (Prepare x l) → k ≡ l

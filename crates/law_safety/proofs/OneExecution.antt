@@ -4,7 +4,7 @@ use Rattle.protocol.specs.Words.{Exec, Version, Body, NodeId, Content, Commit, A
 use Rattle.protocol.specs.Lists.{IsIn}
 use Rattle.protocol.specs.Client.State.{Rules, ClientState, Decision, Attempt}
 use Rattle.protocol.specs.Client.State.Phase.{Between}
-use Rattle.protocol.specs.World.State.{Plan, World, rules}
+use Rattle.protocol.specs.World.State.{Plan, World, rules, first_world}
 use Rattle.protocol.specs.World.Decided.{WasSent, IsOf}
 use Rattle.law_steps.specs.Executions.{IsEarlier}
 use Rattle.law_steps.proofs.ExecutionsLemmas.{exec_order, earlier_itself}
@@ -16,7 +16,6 @@ use Rattle.law_steps.proofs.ClientActs.{ClientAct, IsRunning, TryStep}
 use Rattle.law_steps.proofs.ClientActs.TryStep.{Keeps, Next_exec, Next_try}
 use Rattle.law_steps.proofs.ClientActs.ClientAct.{Quiet, Advances, Prepares, Counts, Proposes, Accepts, Decides, Gives_up, Learns}
 use Rattle.law_steps.proofs.Reach.{Step, Reach, GotAt}
-use Rattle.law_steps.proofs.Reach.From.{Begins, Next}
 use Rattle.law_steps.proofs.ClientFacts.{At, HasPrepared, rec_reach, not_at, running_prepared}
 use Rattle.law_steps.proofs.Senders.{prepare_from}
 use Rattle.law_safety.proofs.LocksLemmas.{voted_prepared}
@@ -29,6 +28,7 @@ use Rattle.law_safety.proofs.InvariantHolds.{safe_reach}
 use Rattle.law_safety.proofs.CommitIsSent.{committed_sent}
 use Rattle.law_steps.proofs.TryRec.{try_rec, client_tries}
 use Rattle.law_steps.proofs.AlwaysLemmas.{always}
+use Rattle.law_steps.proofs.Induction.{on_worlds}
 
 -- a Prepare of client c that was sent in a step is of the execution under way
 prepares_act : (r : Rules) (Got : NodeId → Body → Type 0) (s s' : ClientState) (sent : List Body) → ClientAct r Got s s' sent → (x : Exec) (k : Content) → IsIn (Prepare x k) sent → (x ≡ s.exec) × IsRunning s.phase × (s'.exec ≡ s.exec)
@@ -185,8 +185,8 @@ module _ (p : Plan) (w w' : World) (q : Reach p w) (st : Step p w w') (c : ℕ) 
         go (inr n) = let h = (try_rec p w q c).has (inl (running_under_way (w.client c).phase n.1)) in (h.0, kept_attempt h.0 h.1, h.2 ∙ ap (λ (z : Exec). z.ver) (sym n.0))
 
 pub single_reach : (p : Plan) (w : World) → Reach p w → (c : ℕ) → Single w c
-single_reach p _ Begins c = record { past = λ x k t. absurd t.there; pairs = λ x y k l t. absurd t.there; has = λ x k t. absurd t.there }
-single_reach p _ (Next w w' q st) c = let s = single_reach p w q c in record { past = past_step p w w' q st c s; pairs = pairs_step p w w' q st c s; has = has_step p w w' q st c s }
+single_reach p w q c = on_worlds p first_world (λ v. Single v c) (record { past = λ x k t. absurd t.there; pairs = λ x y k l t. absurd t.there; has = λ x k t. absurd t.there })
+    (λ u v g st s. record { past = past_step p u v g st c s; pairs = pairs_step p u v g st c s; has = has_step p u v g st c s }) w q
 
 module _ (p : Plan) (pos : 0 < p.replicas) (w : World) (q : Reach p w) where
   pub committed_prepared : (x : Exec) → CommitSent w x → (k : Content) × WasSent w (Prepare x k)

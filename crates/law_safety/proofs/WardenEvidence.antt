@@ -16,12 +16,11 @@ use Rattle.protocol.specs.World.State.{Plan, World, warden_rules}
 use Rattle.protocol.specs.World.Events.{parcel}
 use Rattle.std.proofs.lemmas.List.{length-append}
 use Rattle.protocol.proofs.NamesLemmas.{exec_is}
-use Rattle.protocol.proofs.ListsLemmas.{IsIn-left, IsIn-right, IsIn-cases, at_cases, map_in}
+use Rattle.protocol.proofs.ListsLemmas.{IsIn-left, IsIn-right, IsIn-cases, map_in}
 use Rattle.law_steps.proofs.WardenActs.{WardenAct, told_round}
 use Rattle.law_steps.proofs.WardenActs.WardenAct.{Rests, Asks, Counts_told, Counts_accepted, Begins_truncation, Counts_fenced, Ends_truncation}
 use Rattle.law_steps.proofs.Reach.{Step, Reach, ByWardenAct, HeardAt}
-use Rattle.law_steps.proofs.Reach.Step.{Stands, Client_acts, Replica_acts, Warden_acts}
-use Rattle.law_steps.proofs.Reach.From.{Begins, Next}
+use Rattle.law_steps.proofs.Reach.Step.{Warden_acts}
 use Rattle.law_steps.proofs.MailLemmas.{took_reach}
 use Rattle.law_steps.proofs.ReplicaFacts.{RFact, ToldFact, AcceptedFact, facts_reach, fact_cons}
 use Rattle.law_steps.proofs.WardenFacts.{round_found, put_in}
@@ -29,6 +28,7 @@ use Rattle.protocol.proofs.DistinctLemmas.{distinct_more, distinct_map_more}
 use Rattle.law_safety.proofs.ClientEvidence.{absent_id, accepted_fact_grows, upto_in}
 use Rattle.protocol.specs.World.Decided.{WasSent}
 use Rattle.law_safety.proofs.LocksLemmas.{sent_grows, replica_grows}
+use Rattle.law_steps.proofs.Induction.{on_wardens}
 
 -- what a told part stands for
 abbrev pub PartFact : ℕ → World → Exec → ℕ → ToldAnswer → Type 0
@@ -160,13 +160,8 @@ act_ward p w w' q st k s sent new (Ends_truncation act) t = rw act.state (record
     fresh = record { answer = old.answer; answerers = old.answerers }
 
 pub ward_reach : (p : Plan) → 0 < p.replicas → (w : World) → Reach p w → (k : ℕ) → WardEvident p.replicas w (w.warden k)
-ward_reach p pos _ Begins k = record { round = λ a i. absurd i; decision = λ d i. absurd i; trunc = λ t i. absurd i }
-ward_reach p pos _ (Next w w' q (Stands s)) k = subst (λ (f : ℕ → WardenState). WardEvident p.replicas w' (f k)) (sym s.warden) (ward_grows p w w' (Stands s) (w.warden k) (ward_reach p pos w q k))
-ward_reach p pos _ (Next w w' q (Replica_acts s)) k = subst (λ (f : ℕ → WardenState). WardEvident p.replicas w' (f k)) (sym s.warden) (ward_grows p w w' (Replica_acts s) (w.warden k) (ward_reach p pos w q k))
-ward_reach p pos _ (Next w w' q (Client_acts s)) k = subst (λ (f : ℕ → WardenState). WardEvident p.replicas w' (f k)) (sym s.warden) (ward_grows p w w' (Client_acts s) (w.warden k) (ward_reach p pos w q k))
-ward_reach p pos _ (Next w w' q (Warden_acts s)) k = subst (λ (f : ℕ → WardenState). WardEvident p.replicas w' (f k)) (sym s.warden) (at_cases (WardEvident p.replicas w') s.k s.state w.warden k
-    (λ e. act_ward p w w' q (Warden_acts s) s.k s.state s.sent (ward_sent p w w' s pos) s.act (ward_grows p w w' (Warden_acts s) (w.warden s.k) (ward_reach p pos w q s.k)))
-    (ward_grows p w w' (Warden_acts s) (w.warden k) (ward_reach p pos w q k)))
+ward_reach p pos = on_wardens p (λ w k. WardEvident p.replicas w) (λ k. record { round = λ a i. absurd i; decision = λ d i. absurd i; trunc = λ t i. absurd i }) (λ w w' st k. ward_grows p w w' st)
+    (λ w w' q s. act_ward p w w' q (Warden_acts s) s.k s.state s.sent (ward_sent p w w' s pos) s.act)
 
 -- what a replica decided was sent
 decided_taken : (h : Handled) (x : Exec) (d : Choice) → decided h x ≡ Some d → (m : Envelope) × IsIn m h × ((o : Option Content) × (m.body ≡ Decide x d o))

@@ -10,7 +10,7 @@ use Rattle.law_steps.proofs.PhaseLemmas.{running_under_way, prepared_under_way, 
 use Rattle.law_steps.proofs.ClientActs.{ClientAct, IsQuiet, AllQuiet, IsRunning, IsUnprepared, IsUnderWay, SameStage, WasBegun, IsOpen}
 use Rattle.law_steps.proofs.ClientActs.ClientAct.{Quiet, Advances, Prepares, Counts, Proposes, Accepts, Decides, Gives_up, Learns}
 use Rattle.law_steps.proofs.Reach.{Reach, GotAt}
-use Rattle.law_steps.proofs.Induction.{ClientsSaid, clients_said_reach, clients_reach}
+use Rattle.law_steps.proofs.Induction.{ClientsSaid, clients_said_reach, on_clients}
 use Rattle.law_steps.proofs.ExecutionsLemmas.{earlier_trans, earlier_itself}
 
 abbrev pub HasPrepared : Content → Phase → Type 0
@@ -203,7 +203,8 @@ module _ (r : Rules) (Got : NodeId → Body → Type 0) (s s' : ClientState) (se
   said_new t (Learns act) b i = none_sent act.silent b i
 
 pub rec_reach : (p : Plan) (w : World) → Reach p w → (c : ℕ) → CRec c (w.client c)
-rec_reach p w q = clients_reach p CRec (λ c. record { own = λ u. absurd u; done = λ d i. absurd i }) (λ v t c s sent a k. act_rec (rules p c) (GotAt v c) (v.client c) s sent a k) w q
+rec_reach p = on_clients p (λ w. CRec) (λ c. record { own = λ u. absurd u; done = λ d i. absurd i }) (λ w w' st c s k. k)
+    (λ w w' q s. act_rec (rules p s.c) (GotAt w s.c) (w.client s.c) s.state s.sent s.act)
 
 pub client_facts_reach : (p : Plan) (w : World) → Reach p w → ClientsSaid CFact w
 client_facts_reach p w q = clients_said_reach p CFact (λ v t c s sent a. (said_stays (rules p c) (GotAt v c) (v.client c) s sent a, said_new (rules p c) (GotAt v c) (v.client c) s sent (rec_reach p v t c) a)) w q

@@ -3,10 +3,10 @@ use Rattle.protocol.specs.Words.{Replica, Envelope}
 use Rattle.protocol.specs.Lists.{IsIn}
 use Rattle.protocol.specs.Replica.Taken.{Handled, takes, after_taking}
 use Rattle.protocol.specs.World.State.{Plan, World}
-use Rattle.protocol.proofs.ListsLemmas.{IsIn-left, at_cases}
+use Rattle.protocol.proofs.ListsLemmas.{IsIn-left}
 use Rattle.law_steps.proofs.Reach.{Step, Reach}
 use Rattle.law_steps.proofs.Reach.Step.{Stands, Client_acts, Replica_acts, Warden_acts}
-use Rattle.law_steps.proofs.Reach.From.{Begins, Next}
+use Rattle.law_steps.proofs.Induction.{on_replicas}
 
 -- the mail only grows
 pub mail_grows : (p : Plan) (w w' : World) → Step p w w' → (m : Envelope) → IsIn m w.mail → IsIn m w'.mail
@@ -27,19 +27,12 @@ taking_cases h m n i = go (takes h m.body) i
     go true i = i
     go false i = inr i
 
-took_keeps : (p : Plan) (w w' : World) → Step p w w' → TookMail w → TookMail w'
-took_keeps p w w' (Stands s) t = record { took = λ r m. rw (s.mail, s.replica) (t.took r m) }
-took_keeps p w w' (Client_acts s) t = record { took = λ r m i. let o = t.took r m (rw s.replica at i) in (mail_grows p w w' (Client_acts s) m o.0, o.1) }
-took_keeps p w w' (Warden_acts s) t = record { took = λ r m i. let o = t.took r m (rw s.replica at i) in (mail_grows p w w' (Warden_acts s) m o.0, o.1) }
-took_keeps p w w' (Replica_acts s) t = record { took = λ r m. rw s.replica (at_cases (λ h. IsIn m h → IsIn m w'.mail × (m.to ≡ Replica r)) s.r (after_taking (w.replica s.r) s.m) w.replica r (λ e i. go r m e (taking_cases (w.replica s.r) s.m m i)) (λ i. grown r m (t.took r m i))) }
-  where
-    grown : (r : ℕ) (m : Envelope) → IsIn m w.mail × (m.to ≡ Replica r) → IsIn m w'.mail × (m.to ≡ Replica r)
-    grown r m o = (mail_grows p w w' (Replica_acts s) m o.0, o.1)
-
-    go : (r : ℕ) (m : Envelope) → r ≡ s.r → (m ≡ s.m) ⊎ IsIn m (w.replica s.r) → IsIn m w'.mail × (m.to ≡ Replica r)
-    go r m e (inl q) = rw (q, e) (grown s.r s.m (s.in_mail, s.addressed))
-    go r m e (inr i) = rw e (grown s.r m (t.took s.r m i))
-
 pub took_reach : (p : Plan) (w : World) → Reach p w → TookMail w
-took_reach p _ Begins = record { took = λ r m i. absurd i }
-took_reach p _ (Next w w' r s) = took_keeps p w w' s (took_reach p w r)
+took_reach p w q = record {
+  took = on_replicas p (λ v r h. (m : Envelope) → IsIn m h → IsIn m v.mail × (m.to ≡ Replica r)) (λ r m i. absurd i)
+      (λ u v st r h k m i. let o = k m i in (mail_grows p u v st m o.0, o.1))
+      (λ u v g s k m i. elim (taking_cases (u.replica s.r) s.m m i) [
+        | inl e ↦ rw e (mail_grows p u v (Replica_acts s) s.m s.in_mail, s.addressed)
+        | inr j ↦ k m j
+      ]) w q;
+}

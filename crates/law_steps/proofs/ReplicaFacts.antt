@@ -9,33 +9,24 @@ use Rattle.protocol.specs.declared.First2.{First2}
 use Rattle.protocol.specs.Replica.Says.{answer, refusal}
 use Rattle.protocol.specs.World.State.{Plan, World}
 use Rattle.protocol.proofs.TestLemmas.{lt_is}
-use Rattle.protocol.proofs.ListsLemmas.{IsIn-right, IsIn-map, IsIn-one_when, at_cases}
+use Rattle.protocol.proofs.ListsLemmas.{IsIn-right, IsIn-map, IsIn-one_when}
 use Rattle.law_steps.proofs.AcceptorLemmas.{IsTold, told_stays, told_new, accept_on_backed}
 use Rattle.law_steps.proofs.KnownLemmas.{Took, took_more, known_taken, IsWell, well_taking, Finds, commit_finds, known_commit, known_cast, known_accepted, accepted_content_finds}
 use Rattle.law_steps.proofs.SaysLemmas.{Spoken, spoken, voted_answer, IsNote}
 use Rattle.law_steps.proofs.SaysLemmas.Spoken.{Answers, Refuses, Notes}
 use Rattle.law_steps.proofs.Reach.{Reach}
-use Rattle.law_steps.proofs.Reach.Step.{Stands, Client_acts, Replica_acts, Warden_acts}
-use Rattle.law_steps.proofs.Reach.From.{Begins, Next}
-use Rattle.law_steps.proofs.Induction.{ReplicasSaid, replicas_said_reach}
+use Rattle.law_steps.proofs.Induction.{ReplicasSaid, replicas_said_reach, on_replicas}
 use Rattle.protocol.proofs.ReplicaGrows.{cast_stays}
 use Rattle.law_steps.proofs.TakenLemmas.{IsTaking, taking_more}
 use Rattle.law_steps.proofs.FencedFacts.{FencedFact, fenced_more, fence_answer}
 
 -- each replica's list is well in every world
 pub well_reach : (p : Plan) (w : World) → Reach p w → (r : ℕ) → IsWell (w.replica r)
-well_reach p _ Begins r = tt
-well_reach p _ (Next w w' q (Stands s)) r = rw s.replica (well_reach p w q r)
-well_reach p _ (Next w w' q (Client_acts s)) r = rw s.replica (well_reach p w q r)
-well_reach p _ (Next w w' q (Warden_acts s)) r = rw s.replica (well_reach p w q r)
-well_reach p _ (Next w w' q (Replica_acts s)) r = rw s.replica (at_cases IsWell s.r _ w.replica r (λ _. well_taking _ s.m (well_reach p w q s.r)) (well_reach p w q r))
+well_reach p = on_replicas p (λ w r h. IsWell h) (λ r. tt) (λ w w' st r h k. k) (λ w w' q s. well_taking (w.replica s.r) s.m)
 
+-- a replica's list has only what it takes
 pub taking_reach : (p : Plan) (w : World) → Reach p w → (r : ℕ) → IsTaking (w.replica r)
-taking_reach p _ Begins r = tt
-taking_reach p _ (Next w w' q (Stands s)) r = rw s.replica (taking_reach p w q r)
-taking_reach p _ (Next w w' q (Client_acts s)) r = rw s.replica (taking_reach p w q r)
-taking_reach p _ (Next w w' q (Warden_acts s)) r = rw s.replica (taking_reach p w q r)
-taking_reach p _ (Next w w' q (Replica_acts s)) r = rw s.replica (at_cases IsTaking s.r _ w.replica r (λ _. taking_more _ s.m (taking_reach p w q s.r)) (taking_reach p w q r))
+taking_reach p = on_replicas p (λ w r h. IsTaking h) (λ r. tt) (λ w w' st r h k. k) (λ w w' q s. taking_more (w.replica s.r) s.m)
 
 -- what a Told says is so for good
 pub record ToldFact (h : Handled) (x : Exec) (v : ℕ) (vt : Option Vote) (ac : Option Accept) (de : Option Choice) (co : Option Content) : Type 0 where

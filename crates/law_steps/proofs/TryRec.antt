@@ -5,13 +5,11 @@ use Rattle.protocol.specs.Lists.{IsIn}
 use Rattle.protocol.specs.Client.State.{ClientState, Attempt}
 use Rattle.protocol.specs.Client.State.Phase.{Between}
 use Rattle.protocol.specs.World.State.{Plan, World}
-use Rattle.protocol.proofs.ListsLemmas.{at_cases}
 use Rattle.law_steps.proofs.PhaseLemmas.{running_under_way, running_between}
 use Rattle.law_steps.proofs.ClientActs.{IsAborted, IsOn, TryStep}
 use Rattle.law_steps.proofs.ClientActs.TryStep.{Keeps, Next_exec, Next_try}
 use Rattle.law_steps.proofs.Reach.{Step, Reach}
-use Rattle.law_steps.proofs.Reach.Step.{Stands, Client_acts, Replica_acts, Warden_acts}
-use Rattle.law_steps.proofs.Reach.From.{Begins, Next}
+use Rattle.law_steps.proofs.Induction.{client_in_step, on_clients}
 
 abbrev pub IsFalling : List Attempt → Type 0
 IsFalling [] = Unit {0}
@@ -56,19 +54,12 @@ step_rec s s' (Next_try q l a d c run) t = record {
 
 -- a client's record in a step
 pub client_tries : (p : Plan) (w w' : World) → Step p w w' → (c : ℕ) → (w'.client c ≡ w.client c) ⊎ TryStep (w.client c) (w'.client c)
-client_tries p w w' (Stands s) c = inl (ap (λ f. f c) s.client)
-client_tries p w w' (Replica_acts s) c = inl (ap (λ f. f c) s.client)
-client_tries p w w' (Warden_acts s) c = inl (ap (λ f. f c) s.client)
-client_tries p w w' (Client_acts s) c = subst (λ (f : ℕ → ClientState). (f c ≡ w.client c) ⊎ TryStep (w.client c) (f c)) (sym s.client)
-    (at_cases (λ (z : ClientState). (z ≡ w.client c) ⊎ TryStep (w.client c) z) s.c s.state w.client c (λ e. inr (subst (λ j. TryStep (w.client j) s.state) (sym e) s.tries)) (inl refl))
+client_tries p w w' st c = client_in_step p w w' st (λ j s. (s ≡ w.client j) ⊎ TryStep (w.client j) s) (λ s k. inr s.tries) c (inl refl)
 
 pub try_rec : (p : Plan) (w : World) → Reach p w → (c : ℕ) → TryRec (w.client c)
-try_rec p _ Begins c = record { begun = λ b i. absurd i; bounded = λ b i. absurd i; aborted = λ z f. absurd f; has = λ z. elim z [ inl y ↦ absurd y | inr y ↦ absurd y ]; falling = tt }
-try_rec p _ (Next w w' q st) c = go (client_tries p w w' st c) (try_rec p w q c)
-  where
-    go : (w'.client c ≡ w.client c) ⊎ TryStep (w.client c) (w'.client c) → TryRec (w.client c) → TryRec (w'.client c)
-    go (inl e) t = subst TryRec (sym e) t
-    go (inr s) t = step_rec (w.client c) (w'.client c) s t
+try_rec p = on_clients p (λ w c s. TryRec s)
+    (λ c. record { begun = λ b i. absurd i; bounded = λ b i. absurd i; aborted = λ z f. absurd f; has = λ z. elim z [ inl y ↦ absurd y | inr y ↦ absurd y ]; falling = tt })
+    (λ w w' st c s t. t) (λ w w' q s. step_rec (w.client s.c) s.state s.tries)
 
 pub falling_one : (more : List Attempt) → IsFalling more → (a b : Attempt) → IsIn a more → IsIn b more → a.ver.ts ≡ b.ver.ts → a ≡ b
 falling_one [] f a b i j e = absurd i

@@ -13,7 +13,7 @@ use Rattle.protocol.proofs.NamesLemmas.{exec_is, same_exec_refl}
 use Rattle.law_steps.proofs.WardenActs.{WardenAct, told_round}
 use Rattle.law_steps.proofs.WardenActs.WardenAct.{Rests, Asks, Counts_told, Counts_accepted, Begins_truncation, Counts_fenced, Ends_truncation}
 use Rattle.law_steps.proofs.Reach.{Reach, HeardAt}
-use Rattle.law_steps.proofs.Induction.{WardensSaid, wardens_said_reach, wardens_reach}
+use Rattle.law_steps.proofs.Induction.{WardensSaid, wardens_said_reach, on_wardens}
 use Rattle.law_steps.proofs.SendingLemmas.{parcel_body}
 
 -- the round found is in the list, and is that of x in view v
@@ -223,7 +223,8 @@ pub wardens_range : (k n : ℕ) → in_range k n ≡ true → (0 < k) × (k ≤ 
 wardens_range k n e = (lt_is 0 k (and_left _ _ e), le_is k n (and_right (nat_lt 0 k) _ e))
 
 pub wrec_reach : (p : Plan) (w : World) → Reach p w → (k : ℕ) → WRec p.wardens k (w.warden k)
-wrec_reach p w q = wardens_reach p (WRec p.wardens) (λ k. record { numbered = λ a i. absurd i }) (λ v t k s sent real a z. act_numbered (warden_rules p k) (HeardAt v k) (v.warden k) s sent (wardens_positive k p.wardens real) (wardens_range k p.wardens real) a z) w q
+wrec_reach p = on_wardens p (λ w. WRec p.wardens) (λ k. record { numbered = λ a i. absurd i }) (λ w w' st k s t. t)
+    (λ w w' q s. act_numbered (warden_rules p s.k) (HeardAt w s.k) (w.warden s.k) s.state s.sent (wardens_positive s.k p.wardens s.real) (wardens_range s.k p.wardens s.real) s.act)
 
 pub ward_facts_reach : (p : Plan) (w : World) → Reach p w → WardensSaid (WFact p.wardens) w
 ward_facts_reach p w q = wardens_said_reach p (WFact p.wardens) (λ v t k s sent real a. (
