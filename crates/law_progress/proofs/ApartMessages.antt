@@ -12,7 +12,7 @@ use Rattle.protocol.specs.Client.State.{Attempt}
 use Rattle.protocol.specs.Client.Step.{is_warden}
 use Rattle.protocol.specs.World.State.{Plan, World}
 use Rattle.protocol.specs.World.Decided.{WasSent}
-use Rattle.law_steps.proofs.TakenLemmas.{true_false}
+use Rattle.protocol.proofs.TestLemmas.{true_false}
 use Rattle.law_steps.proofs.ReplicaFacts.{RFact, facts_reach}
 use Rattle.law_steps.proofs.MailLemmas.{took_reach}
 use Rattle.law_steps.proofs.PhaseLemmas.{warden_is}

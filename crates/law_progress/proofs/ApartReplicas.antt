@@ -14,10 +14,10 @@ use Rattle.protocol.specs.Replica.Votes.{Cast, casts, new_cast, verdict, conflic
 use Rattle.protocol.specs.Client.State.{Attempt, ClientState}
 use Rattle.protocol.specs.World.State.{Plan, World}
 use Rattle.protocol.specs.World.Decided.{WasSent, IsOf}
-use Rattle.protocol.proofs.TestLemmas.{and_left, and_right}
+use Rattle.protocol.proofs.TestLemmas.{true_false, and_left, and_right}
 use Rattle.protocol.proofs.ListsLemmas.{IsIn-cases, at_same}
-use Rattle.protocol.proofs.NamesLemmas.{key_is}
-use Rattle.law_steps.proofs.TakenLemmas.{before_self, true_false, no_base, cast_is}
+use Rattle.protocol.proofs.NamesLemmas.{key_is, before_self}
+use Rattle.law_steps.proofs.TakenLemmas.{no_base, cast_is}
 use Rattle.law_steps.proofs.ReplicaFacts.{RFact, facts_reach}
 use Rattle.law_steps.proofs.KnownLemmas.{commit_taken, cast_taken}
 use Rattle.law_steps.proofs.ClientActs.{IsRunning}

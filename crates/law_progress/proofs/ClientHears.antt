@@ -16,11 +16,10 @@ use Rattle.protocol.specs.Client.Following.{Effect, prepare_if_idle, with_answer
 use Rattle.protocol.specs.Client.Following.Effect.{Nothing, Sure, Follow}
 use Rattle.protocol.specs.Client.Counting.{tally_says, on_tally, prepared, counts_vote, count_votes}
 use Rattle.protocol.specs.Client.Step.{from_replica, comes_running, comes_prepared, told_running, is_warden}
-use Rattle.protocol.proofs.TestLemmas.{eqb_is}
+use Rattle.protocol.proofs.TestLemmas.{true_false, eqb_is}
 use Rattle.protocol.proofs.ListsLemmas.{IsIn-cases}
 use Rattle.protocol.proofs.NamesLemmas.{same_version_tells, same_exec_tells, key_itself}
 use Rattle.std.proofs.lemmas.Bool.Decides.{nat_tests}
-use Rattle.law_steps.proofs.TakenLemmas.{true_false}
 use Rattle.law_steps.proofs.VotesLemmas.{any_true}
 use Rattle.law_progress.proofs.CommitTallies.{AllCommit, IsCounted, commits_or_waits}
 

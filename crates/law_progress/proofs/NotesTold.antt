@@ -12,7 +12,7 @@ use Rattle.protocol.specs.Replica.Says.{says, answer, refusal}
 use Rattle.protocol.specs.World.State.{Plan, World}
 use Rattle.protocol.proofs.TestLemmas.{and_right}
 use Rattle.protocol.proofs.ListsLemmas.{IsIn-cases, IsIn-map, IsIn-flat_map, IsIn-one_when}
-use Rattle.law_steps.proofs.PhaseLemmas.{not_true}
+use Rattle.std.proofs.lemmas.Bool.{not-true}
 use Rattle.law_steps.proofs.Reach.{Reach}
 use Rattle.law_steps.proofs.Induction.{ReplicasSaid, replicas_said_reach}
 
@@ -125,7 +125,7 @@ due_told firsts r h m e i =
       list = m ∷ h;
       within = λ n i. i;
       told = refl;
-      gone = inr (h, (λ n i. inr i), not_true (same_held (latest firsts h k.0.key k.0.ver) (latest firsts (m ∷ h) k.0.key k.0.ver)) (and_right (before (dropped (m ∷ h)) k.0.ver) _ j.0));
+      gone = inr (h, (λ n i. inr i), not-true (same_held (latest firsts h k.0.key k.0.ver) (latest firsts (m ∷ h) k.0.key k.0.ver)) (and_right (before (dropped (m ∷ h)) k.0.ver) _ j.0));
     })
 
 said_told : (firsts : List First2) (r : ℕ) (h : Handled) (m e : Envelope) → IsIn e (says firsts r h m) → Told firsts r (after_taking h m) e.body

@@ -18,7 +18,7 @@ use Rattle.protocol.specs.Client.Counting.{count_votes}
 use Rattle.protocol.specs.World.State.{Plan, World, rules}
 use Rattle.protocol.specs.World.Events.{at, to_all}
 use Rattle.protocol.specs.World.Decided.{WasSent}
-use Rattle.protocol.proofs.ListsLemmas.{map_in, flat_map_in, at_same, at_other}
+use Rattle.protocol.proofs.ListsLemmas.{map_in, flat_map_in, at_same, at_other, upto_in}
 use Rattle.protocol.proofs.EventSteps.{IsIn-get}
 use Rattle.law_steps.specs.Executions.{Over}
 use Rattle.law_steps.proofs.ClientActs.{IsUnderWay}
@@ -30,7 +30,6 @@ use Rattle.law_steps.proofs.VotesLemmas.{new_vote}
 use Rattle.law_steps.proofs.Senders.{prepare_from}
 use Rattle.law_steps.proofs.ExecutionsLemmas.{earlier_itself}
 use Rattle.law_safety.proofs.TruncationSettles.{CommitSent}
-use Rattle.law_safety.proofs.ClientEvidence.{upto_in}
 use Rattle.law_safety.proofs.WardenEvidence.{decided_sent}
 use Rattle.law_progress.proofs.RepliesLemmas.{says_note, says_vote}
 use Rattle.law_progress.proofs.CalmWardens.{IsCalm}

@@ -3,13 +3,13 @@ use Rattle.std.proofs.Common.{◌≡◌, ◌+◌, ◌*◌, inl, inr, Option, ari
 use Rattle.protocol.specs.Words.{Exec, Client, Choice, Content, Finalize, Abandon}
 use Rattle.protocol.specs.World.Decided.{WasSent, WasSentBy}
 use Rattle.protocol.specs.World.State.{Plan, World}
-use Rattle.law_safety.specs.Invariants.{AbandonProposals, AbandonProposalsOf}
 use Rattle.law_steps.proofs.Reach.{Reach}
 use Rattle.law_steps.proofs.Senders.{final_from, FinalFrom, warden_view}
 use Rattle.law_steps.proofs.Senders.FinalFrom.{By_client, By_warden}
-use Rattle.law_safety.proofs.InvariantHolds.{safe_reach}
 use Rattle.law_steps.proofs.AlwaysLemmas.{always}
+use Rattle.law_safety.specs.Invariants.{AbandonProposals, AbandonProposalsOf}
 use Rattle.law_safety.specs.Invariants.MayAbandon.{Client_proposed, One_shut}
+use Rattle.law_safety.proofs.InvariantHolds.{safe_reach}
 
 -- a proposal of view 0 is the client's
 first_view : (p : Plan) (w : World) → Reach p w → (x : Exec) (d : Choice) (o : Option Content) → WasSent w (Finalize x 0 d o) → WasSentBy w (Client x.ver.client) (Finalize x 0 d o)

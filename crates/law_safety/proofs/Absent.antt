@@ -1,6 +1,6 @@
 -- What a script has no node for does nothing.
-use Rattle.std.proofs.Common.{◌≡◌, ℕ, ◌≤◌, ◌<◌, ◌⊎◌, inl, inr, refl, subst, true, [], ◌∷◌, Some, arith}
-use Rattle.std.specs.Prelude.{zero, suc, map, length, nat_lt, nat_le}
+use Rattle.std.proofs.Common.{◌≡◌, ℕ, ◌⊎◌, inl, inr, refl, subst, true, [], Some}
+use Rattle.std.specs.Prelude.{map, length, nat_lt, nat_le}
 use Rattle.protocol.specs.Words.{Exec, NodeId, Client, Replica, Warden, Choice}
 use Rattle.protocol.specs.Lists.{IsIn, upto}
 use Rattle.protocol.specs.Replica.Taken.{Handled}
@@ -10,7 +10,7 @@ use Rattle.protocol.specs.World.State.{Plan, World, exists, in_range}
 use Rattle.protocol.specs.World.Decided.{decided_by}
 use Rattle.protocol.specs.World.Committed.{nodes}
 use Rattle.protocol.proofs.TestLemmas.{and_left, and_right, lt_is, le_is}
-use Rattle.protocol.proofs.ListsLemmas.{IsIn-left, IsIn-right, map_in}
+use Rattle.protocol.proofs.ListsLemmas.{IsIn-left, IsIn-right, map_in, upto_in}
 use Rattle.law_steps.proofs.Reach.{Reach}
 use Rattle.law_steps.proofs.Induction.{on_clients, on_replicas, on_wardens}
 
@@ -42,15 +42,8 @@ decided_real p w q (Warden k) x d e = elim ((absent_reach p w q).warden k) [
   | inl z ↦ let f : decided_by (record w { warden = λ j. fresh_warden }) (Warden k) x ≡ Some d = subst (λ (s : WardenState). decided_by (record w { warden = λ j. s }) (Warden k) x ≡ Some d) z e in cc
 ]
 
-upto_has : (n k : ℕ) → 0 < k → k ≤ n → IsIn k (upto n)
-upto_has zero k a b = absurd (omega (arith, a, b))
-upto_has (suc n) k a b = elim (split k n b) [ inl l ↦ IsIn-left k (upto n) (suc n ∷ []) (upto_has n k a l) | inr e ↦ IsIn-right k (upto n) (suc n ∷ []) (inl e) ]
-  where
-    split : (k n : ℕ) → k ≤ suc n → (k ≤ n) ⊎ (k ≡ suc n)
-    split k n l = grind arith
-
 in_upto : (k n : ℕ) → in_range k n ≡ true → IsIn k (upto n)
-in_upto k n e = upto_has n k (lt_is 0 k (and_left (nat_lt 0 k) (nat_le k n) e)) (le_is k n (and_right (nat_lt 0 k) (nat_le k n) e))
+in_upto k n e = upto_in n k (lt_is 0 k (and_left (nat_lt 0 k) (nat_le k n) e)) (le_is k n (and_right (nat_lt 0 k) (nat_le k n) e))
 
 in_nodes : (p : Plan) (n : NodeId) → exists p n ≡ true → IsIn n (nodes p)
 in_nodes p (Client c) e = IsIn-left (Client c) (map Client (upto (length p.clients))) _ (map_in Client (upto (length p.clients)) c (in_upto c (length p.clients) e))

@@ -3,12 +3,12 @@ use Rattle.std.proofs.Common.{◌≡◌, ◌<◌, ◌≢◌, Some}
 use Rattle.protocol.specs.Words.{Exec, NodeId, Abandon, ToCommit}
 use Rattle.protocol.specs.World.State.{Plan, World}
 use Rattle.protocol.specs.World.Decided.{decided_by}
-use Rattle.law_safety.specs.Agreement.{Agreement, AgreementOf}
 use Rattle.law_steps.proofs.Reach.{Reach}
+use Rattle.law_steps.proofs.AlwaysLemmas.{always}
+use Rattle.law_safety.specs.Agreement.{Agreement, AgreementOf}
 use Rattle.law_safety.proofs.LocksLemmas.{locks_clash}
 use Rattle.law_safety.proofs.CommitIsSent.{decided_by_sent}
 use Rattle.law_safety.proofs.InvariantHolds.{safe_reach}
-use Rattle.law_steps.proofs.AlwaysLemmas.{always}
 
 module _ (p : Plan) (pos : 0 < p.replicas) where
   agreed : (w : World) → Reach p w → (x : Exec) (a b : NodeId) → decided_by w a x ≡ Some Abandon → decided_by w b x ≢ Some ToCommit

@@ -15,10 +15,10 @@ use Rattle.protocol.proofs.ListsLemmas.{IsIn-left, IsIn-right, IsIn-cases, IsIn-
 use Rattle.law_steps.proofs.MailLemmas.{mail_grows}
 use Rattle.law_steps.proofs.Reach.{Step, Reach}
 use Rattle.law_steps.proofs.ReplicaFacts.{RFact, facts_reach}
-use Rattle.law_safety.specs.Invariants.{AnswersTell, AnswersTellOf}
-use Rattle.law_safety.proofs.LocksLemmas.{cast_found}
 use Rattle.law_steps.proofs.AlwaysLemmas.{always_of_any}
 use Rattle.law_steps.proofs.Induction.{on_replicas}
+use Rattle.law_safety.specs.Invariants.{AnswersTell, AnswersTellOf}
+use Rattle.law_safety.proofs.LocksLemmas.{cast_found}
 
 cast_answer : (firsts : List First2) (h : Handled) (b : Body) (c : Cast) → IsIn c (new_cast h (casts h) b) → IsIn (Voted c.exec c.vote) (answer firsts h b)
 unfolding answer

@@ -1,3 +1,4 @@
+-- What stands in the bases that were sent, and what is in conflict with it.
 use Rattle.std.proofs.Common.{◌≡◌, ℕ, inl, inr, refl, ap, sym, ◌∙◌, subst, true, false, Bool, List, [], ◌∷◌, Option, arith, ◌≤◌}
 use Rattle.std.specs.Prelude.{suc, ◌&&◌, ◌||◌}
 use Rattle.std.specs.List.{list_any}
@@ -7,10 +8,10 @@ use Rattle.protocol.specs.Replica.Taken.{Handled, dropped, base}
 use Rattle.protocol.specs.Replica.Votes.{conflicts, conflicts_with_base, misses, writes_key}
 use Rattle.protocol.specs.Warden.Base.{entries_of}
 use Rattle.protocol.specs.World.State.{World}
-use Rattle.protocol.proofs.TestLemmas.{and_left, and_right}
-use Rattle.protocol.proofs.NamesLemmas.{key_is, key_itself, key_irreflexive}
 use Rattle.protocol.specs.World.Decided.{UpTo, WasSent, IsRising}
-use Rattle.law_steps.proofs.TakenLemmas.{before_then, then_before, true_false, before_up_to, before_self as self, dropped_taken}
+use Rattle.protocol.proofs.TestLemmas.{true_false, and_left, and_right}
+use Rattle.protocol.proofs.NamesLemmas.{key_is, key_itself, key_irreflexive, before_then, then_before, before_up_to, before_self as self}
+use Rattle.law_steps.proofs.TakenLemmas.{dropped_taken}
 use Rattle.law_steps.proofs.VotesLemmas.{any_true, any_in}
 
 -- an entry of the base for the key of e, whose write name is not below e's
@@ -54,9 +55,6 @@ both a b e f = rw (e, f) refl
 wid_up : (d e : BaseEntry) → wid_before d.wid e.wid ≡ false → UpTo e.wid.ver d.wid.ver
 unfolding wid_before
 wid_up d e q = or_left _ _ q
-
-reads_below : Version → List Write → Read → Bool
-reads_below v ws r = before r.wid.ver v && writes_key r.key ws
 
 only_key : (k : Key) (d : BaseEntry) → writes_key k (record { key = d.key; value = d.value } ∷ []) ≡ true → k ≡ d.key
 only_key k d e = key_is k d.key (or_false (same_key k d.key) e)

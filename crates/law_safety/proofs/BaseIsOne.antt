@@ -1,3 +1,4 @@
+-- A world has one base at a version.
 use Rattle.std.proofs.Common.{◌≡◌, ℕ, ◌<◌, inl, inr, ap, sym, ◌∙◌, subst, false, List, [], ◌∷◌, arith}
 use Rattle.std.specs.Prelude.{suc}
 use Rattle.protocol.specs.Words.{Exec, Version, BaseEntry, Content, Write, Prepare, key_before, wid_before}
@@ -5,13 +6,13 @@ use Rattle.protocol.specs.Lists.{IsIn}
 use Rattle.protocol.specs.Warden.Base.{entries_of}
 use Rattle.protocol.specs.World.State.{Plan, World}
 use Rattle.protocol.specs.World.Decided.{WasSent, IsWrite, IsBase}
-use Rattle.law_safety.proofs.OneContent.{same_prepared}
-use Rattle.law_safety.specs.Bases.{BaseIsOne, BaseIsOneOf}
 use Rattle.protocol.proofs.NamesLemmas.{key_trans, key_irreflexive, wid_equal, exec_of}
 use Rattle.law_steps.proofs.Reach.{Reach}
+use Rattle.law_steps.proofs.AlwaysLemmas.{always}
+use Rattle.law_safety.specs.Bases.{BaseIsOne, BaseIsOneOf}
+use Rattle.law_safety.proofs.OneContent.{same_prepared}
 use Rattle.law_safety.proofs.RisingLemmas.{IsStrict, same_members}
 use Rattle.law_safety.proofs.BaseEntries.{rising_one, entry_wid}
-use Rattle.law_steps.proofs.AlwaysLemmas.{always}
 
 -- no key is before itself, nor two before each other
 keys_strict : IsStrict (λ (d e : BaseEntry). key_before d.key e.key)

@@ -3,9 +3,9 @@ use Rattle.std.proofs.Common.{[], ◌≡◌, ◌⊎◌, inl, inr, refl, ap, sym,
 use Rattle.protocol.specs.Words.{BaseEntry, same_key, key_before, wid_before, Key}
 use Rattle.protocol.specs.Lists.{IsIn}
 use Rattle.protocol.specs.Warden.Base.{put_entry, put_entries}
+use Rattle.protocol.specs.World.Decided.{IsRising}
 use Rattle.protocol.proofs.NamesLemmas.{key_is, wid_trans, wid_less, wid_itself, key_trans, key_order}
 use Rattle.law_safety.proofs.BaseEntries.{HasEntry}
-use Rattle.protocol.specs.World.Decided.{IsRising}
 
 -- the base that is put together holds each entry, or a greater one, and no other
 entry_self : (bs : List BaseEntry) (d : BaseEntry) → IsIn d bs → HasEntry bs d

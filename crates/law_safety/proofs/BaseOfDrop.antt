@@ -7,25 +7,25 @@ use Rattle.protocol.specs.Warden.Base.{kept_entries, decided_entries, base_of}
 use Rattle.protocol.specs.World.State.{Plan, World, first_world, rules, warden_rules}
 use Rattle.protocol.specs.World.Events.{replay_from}
 use Rattle.protocol.specs.World.Decided.{UpTo, WasSent, Committed, IsRising, IsBase}
-use Rattle.law_safety.specs.Locks.{AbandonLock}
-use Rattle.law_safety.specs.Bases.{BaseOfDrop, BaseOfDropOf}
+use Rattle.protocol.specs.World.Committed.{base_at}
 use Rattle.law_steps.proofs.Reach.{Reach, From, from_trans, events_reach, GotAt, HeardAt}
 use Rattle.law_steps.proofs.Reach.From.{Begins, Next}
 use Rattle.law_steps.proofs.Origin.{Origin, origin}
+use Rattle.law_steps.proofs.Origin.Origin.{Old, Of_replica, Of_client, Of_warden}
+use Rattle.law_steps.proofs.AlwaysLemmas.{always}
+use Rattle.law_steps.proofs.Induction.{on_worlds}
+use Rattle.law_safety.specs.Locks.{AbandonLock}
+use Rattle.law_safety.specs.Bases.{BaseOfDrop, BaseOfDropOf}
 use Rattle.law_safety.proofs.LocksStay.{abandon_lock_stays}
 use Rattle.law_safety.proofs.LocksLemmas.{sent_grows}
-use Rattle.law_steps.proofs.Origin.Origin.{Old, Of_replica, Of_client, Of_warden}
 use Rattle.law_safety.proofs.TruncationSettles.{apart_locks}
 use Rattle.law_safety.proofs.ShapedBodies.{client_no_drop, ward_dropped}
 use Rattle.law_safety.proofs.BaseLemmas.{puts_rising}
 use Rattle.law_safety.proofs.InvariantHolds.{commit_ground, safe_reach}
 use Rattle.law_safety.proofs.CommitIsSent.{committed_sent, sent_committed}
-use Rattle.protocol.specs.World.Committed.{base_at}
 use Rattle.law_safety.proofs.BaseIsOne.{base_one}
 use Rattle.law_safety.proofs.DropSettles.{drop_settles_now}
 use Rattle.law_safety.proofs.BaseOfWorld.{base_is}
-use Rattle.law_steps.proofs.AlwaysLemmas.{always}
-use Rattle.law_steps.proofs.Induction.{on_worlds}
 
 base_rising : (w : World) (v : Version) (t : Truncation) (k : ℕ) → IsRising (base_of v (w.warden k) t.answers)
 unfolding base_of

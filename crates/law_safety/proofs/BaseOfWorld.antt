@@ -7,15 +7,15 @@ use Rattle.protocol.specs.Warden.Base.{entries_of, kept_entries}
 use Rattle.protocol.specs.World.State.{Plan, World}
 use Rattle.protocol.specs.World.Decided.{WasSent, IsWrite, IsBase}
 use Rattle.protocol.specs.World.Committed.{CommittedExec, committed_executions, kept_of, base_at}
-use Rattle.law_safety.proofs.OneContent.{same_prepared}
-use Rattle.law_safety.specs.CommittedList.{IsCommittedAs}
 use Rattle.protocol.proofs.ListsLemmas.{map_in, flat_map_in, IsIn-map, IsIn-flat_map}
 use Rattle.law_steps.proofs.Reach.{Reach}
+use Rattle.law_steps.proofs.AlwaysLemmas.{always}
+use Rattle.law_safety.specs.CommittedList.{IsCommittedAs}
+use Rattle.law_safety.specs.Bases.{BaseOfWorld, BaseOfWorldOf}
+use Rattle.law_safety.proofs.OneContent.{same_prepared}
 use Rattle.law_safety.proofs.BaseLemmas.{puts_hold, puts_of, puts_rising}
 use Rattle.law_safety.proofs.BaseIsOne.{base_one}
 use Rattle.law_safety.proofs.CommittedList.{listed_only, listed_all}
-use Rattle.law_steps.proofs.AlwaysLemmas.{always}
-use Rattle.law_safety.specs.Bases.{BaseOfWorld, BaseOfWorldOf}
 
 module _ (p : Plan) (pos : 0 < p.replicas) (w : World) (q : Reach p w) where
   -- the entries of the committed contents at or below a version

@@ -1,13 +1,11 @@
 -- What a warden chooses by its Tolds agrees with what was locked.
-use Rattle.protocol.proofs.QuorumsLemmas.{named_quorum, quorums_meet}
-use Rattle.law_steps.proofs.KnownLemmas.{choice_cases, Finds}
 use Rattle.std.proofs.Common.{◌≡◌, ℕ, ◌<◌, ◌≤◌, ◌⊎◌, ◌≢◌, inl, inr, refl, ap, sym, ◌∙◌, subst, true, false, Bool, cond, List, [], ◌∷◌, Option, Some, None, length, arith}
 use Rattle.std.specs.Prelude.{map, ◌&&◌, nat_lt}
 use Rattle.std.specs.List.{list_all}
 use Rattle.std.proofs.lemmas.Bool.Decides.{nat_tests}
+use Rattle.std.specs.Option.{option_or}
 use Rattle.protocol.specs.Words.{Exec, Finalize, Decide, Accept, Content, Vote, Commit, Tentative, Final, Choice, Abandon, ToCommit}
 use Rattle.protocol.specs.World.Decided.{WasSent}
-use Rattle.std.specs.Option.{option_or}
 use Rattle.protocol.specs.Lists.{IsIn}
 use Rattle.protocol.specs.Replica.Votes.{is_commit_vote}
 use Rattle.protocol.specs.Replica.Acceptor.{promised, acceptances}
@@ -15,14 +13,16 @@ use Rattle.protocol.specs.Quorums.{quorum, Quorum, HasNoRepeats}
 use Rattle.protocol.specs.Warden.State.{ToldAnswer}
 use Rattle.protocol.specs.Warden.Recovery.{fixed, fixed_choice, with_content, told_decision, told_accept, told_commit, told_content, higher}
 use Rattle.protocol.specs.World.State.{Plan, World}
+use Rattle.protocol.proofs.QuorumsLemmas.{named_quorum, quorums_meet}
 use Rattle.protocol.proofs.TestLemmas.{and_left, and_right, lt_is}
+use Rattle.law_steps.proofs.KnownLemmas.{choice_cases, Finds}
 use Rattle.law_steps.proofs.Reach.{Reach}
-use Rattle.law_safety.proofs.WardenEvidence.{PartFact, decided_sent}
 use Rattle.law_safety.specs.Locks.{VotedCommit, HasAccepted, Shut, AbandonLock, CommitLock}
-use Rattle.law_safety.proofs.LocksLemmas.{Closed, accepted_sent, shut_no, carried, quorum_map}
 use Rattle.law_safety.specs.Locks.Shut.{Has_promised}
 use Rattle.law_safety.specs.Locks.AbandonLock.{Accepted_abandon, All_shut}
 use Rattle.law_safety.specs.Locks.CommitLock.{Accepted_commit, Fast}
+use Rattle.law_safety.proofs.WardenEvidence.{PartFact, decided_sent}
+use Rattle.law_safety.proofs.LocksLemmas.{Closed, accepted_sent, shut_no, carried, quorum_map}
 use Rattle.law_safety.proofs.OneProposal.{one_view}
 use Rattle.law_safety.proofs.Invariant.{Safe}
 

@@ -1,7 +1,8 @@
-use Rattle.std.proofs.Common.{◌≡◌, ℕ, ◌<◌, ◌≤◌, ◌≢◌, inl, inr, refl, sym, ◌∙◌, subst, false, List, [], ◌∷◌, ◌++◌, Option, Some, None, arith}
-use Rattle.std.specs.Prelude.{flat_map, zero, suc, map, ◌==◌}
+-- What a client counted was sent by replicas, and what it decided it sent.
+use Rattle.std.proofs.Common.{◌≡◌, ℕ, ◌<◌, ◌≤◌, inl, inr, refl, sym, ◌∙◌, subst, false, List, [], ◌∷◌, ◌++◌, Option, Some, None, arith}
+use Rattle.std.specs.Prelude.{flat_map, map, ◌==◌}
 use Rattle.std.specs.List.{list_any}
-use Rattle.std.proofs.lemmas.Bool.Decides.{eqb_tells}
+use Rattle.std.proofs.lemmas.List.{map-id}
 use Rattle.protocol.specs.Words.{Exec, NodeId, Client, Replica, Envelope, Body, Content, Choice, Abandon, Prepare, Finalize, Decide}
 use Rattle.protocol.specs.Lists.{IsIn, upto}
 use Rattle.protocol.specs.Replica.Votes.{vote}
@@ -11,18 +12,17 @@ use Rattle.protocol.specs.Client.Deciding.{content_for}
 use Rattle.protocol.specs.Client.State.Phase.{Between, Running, Prepared}
 use Rattle.protocol.specs.World.State.{Plan, World, rules}
 use Rattle.protocol.specs.World.Events.{to_all}
-use Rattle.protocol.proofs.ListsLemmas.{IsIn-left, IsIn-right, IsIn-cases, map_in}
-use Rattle.protocol.proofs.DistinctLemmas.{distinct_more, distinct_map_more, absent}
-use Rattle.std.proofs.lemmas.List.{map-id}
 use Rattle.protocol.specs.Quorums.{HasNoRepeats}
+use Rattle.protocol.specs.World.Decided.{WasSent}
+use Rattle.protocol.proofs.ListsLemmas.{IsIn-left, IsIn-right, IsIn-cases, map_in, upto_in}
+use Rattle.protocol.proofs.DistinctLemmas.{distinct_more, distinct_map_more, absent}
 use Rattle.law_steps.proofs.ClientActs.{ClientAct, IsRunning, SameStage}
 use Rattle.law_steps.proofs.ClientActs.ClientAct.{Quiet, Advances, Prepares, Counts, Proposes, Accepts, Decides, Gives_up, Learns}
 use Rattle.law_steps.proofs.Reach.{Step, Reach, ByClientAct, GotAt}
 use Rattle.law_steps.proofs.Reach.Step.{Client_acts}
 use Rattle.law_steps.proofs.ReplicaFacts.{RFact, AcceptedFact, facts_reach}
-use Rattle.protocol.specs.World.Decided.{WasSent}
-use Rattle.law_safety.proofs.LocksLemmas.{sent_grows, replica_grows, voted_grows}
 use Rattle.law_steps.proofs.Induction.{on_clients}
+use Rattle.law_safety.proofs.LocksLemmas.{sent_grows, replica_grows, voted_grows}
 
 pub absent_id : (j : ℕ) (xs : List ℕ) → list_any (λ i. i == j) xs ≡ false → IsIn j xs → ⊥
 absent_id j xs e i = absent (λ z. z) j xs e (rw map-id i)
@@ -120,14 +120,6 @@ act_evident p w w' q st c s sent new (Learns act) t = record { phase = λ k vs o
 
 evident_grows : (p : Plan) (w w' : World) → Step p w w' → (s : ClientState) → Evident p.replicas w s → Evident p.replicas w' s
 evident_grows p w w' st s t = record { phase = λ k vs o acs h. evidence_grows p w w' st s.exec k vs o acs (t.phase k vs o acs h) }
-
--- each of the numbers 1 to n
-pub upto_in : (n r : ℕ) → 0 < r → r ≤ n → IsIn r (upto n)
-upto_in zero r a b = absurd (omega arith)
-upto_in (suc n) r a b = elim (eqb_tells r (suc n)) [
-  | inl e ↦ IsIn-right r (upto n) (suc n ∷ []) (inl e.1)
-  | inr e ↦ (let f : r ≢ suc n = e.1 in IsIn-left r (upto n) (suc n ∷ []) (upto_in n r a (omega arith)))
-]
 
 to_all_one : (n : ℕ) (from : NodeId) (bs : List Body) (b : Body) → 0 < n → IsIn b bs → (e : Envelope) × IsIn e (flat_map (to_all n from) bs) × (e.body ≡ b)
 to_all_one n from [] b l i = absurd i

@@ -1,25 +1,25 @@
 -- An execution is committed just where a Decide of Commit of it was sent.
 use Rattle.std.proofs.Common.{◌≡◌, ◌<◌, inl, inr, refl, sym, ◌∙◌, subst, true, false, Bool, cond, List, ◌∷◌, Option, Some, ap, []}
 use Rattle.std.specs.List.{find}
+use Rattle.std.specs.Prelude.{option_map, find}
 use Rattle.protocol.specs.Words.{Exec, NodeId, Client, Replica, Warden, Content, Choice, Abandon, ToCommit, Decide, same_exec}
 use Rattle.protocol.specs.Lists.{IsIn}
 use Rattle.protocol.specs.Client.State.{Decision}
 use Rattle.protocol.specs.Warden.State.{DecidedProposal, decision_on}
 use Rattle.protocol.specs.World.State.{Plan, World}
 use Rattle.protocol.specs.World.Decided.{decided_by, WasSent, Committed}
+use Rattle.protocol.proofs.NamesLemmas.{same_exec_refl}
 use Rattle.law_steps.proofs.KnownLemmas.{mapped_some, found, Finds, finds_cons, some_from}
 use Rattle.law_steps.proofs.Reach.{Reach}
 use Rattle.law_steps.proofs.ReplicaFacts.{RFact, facts_reach}
+use Rattle.law_steps.proofs.ClientFacts.{CFact, client_facts_reach}
+use Rattle.law_steps.proofs.WardenFacts.{WFact, ward_facts_reach}
+use Rattle.law_steps.proofs.AlwaysLemmas.{always}
+use Rattle.law_safety.specs.Invariants.{CommitIsSent, CommitIsSentOf}
 use Rattle.law_safety.proofs.ClientEvidence.{decisions_reach}
 use Rattle.law_safety.proofs.WardenEvidence.{ward_reach, decided_sent}
 use Rattle.law_safety.proofs.TruncationSettles.{apart_locks, CommitSent}
-use Rattle.std.specs.Prelude.{option_map, find}
-use Rattle.protocol.proofs.NamesLemmas.{same_exec_refl}
-use Rattle.law_steps.proofs.ClientFacts.{CFact, client_facts_reach}
-use Rattle.law_steps.proofs.WardenFacts.{WFact, ward_facts_reach}
 use Rattle.law_safety.proofs.InvariantHolds.{safe_reach}
-use Rattle.law_safety.specs.Invariants.{CommitIsSent, CommitIsSentOf}
-use Rattle.law_steps.proofs.AlwaysLemmas.{always}
 
 pub find_in : {A : Type 0} (name : A → Exec) (x : Exec) (xs : List A) (a : A) → IsIn a xs → name a ≡ x → Finds (find (λ y. same_exec x (name y)) xs)
 find_in name x [] a i e = absurd i

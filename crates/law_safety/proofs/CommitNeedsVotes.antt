@@ -1,8 +1,8 @@
 -- Where Commit was decided or proposed, a quorum voted Commit.
+use Rattle.law_steps.proofs.AlwaysLemmas.{always}
 use Rattle.law_safety.specs.Invariants.{CommitNeedsVotes, CommitNeedsVotesOf}
 use Rattle.law_safety.proofs.InvariantHolds.{safe_reach}
 use Rattle.law_safety.proofs.CommitIsSent.{committed_sent}
-use Rattle.law_steps.proofs.AlwaysLemmas.{always}
 
 pub commit_needs_votes : CommitNeedsVotes
 commit_needs_votes = always CommitNeedsVotesOf (λ p some w q. record {

@@ -2,26 +2,26 @@
 use Rattle.std.proofs.Common.{◌≡◌, ◌<◌, ◌⊎◌, inl, inr, refl, ap, sym, ◌∙◌, subst, true, false, Bool, cond, List, [], ◌∷◌, Option, Some, None, arith}
 use Rattle.std.specs.Prelude.{flat_map, find}
 use Rattle.std.proofs.lemmas.Bool.Decides.{nat_tests}
-use Rattle.protocol.specs.Words.{Exec, Version, Body, Envelope, Choice, Abandon, ToCommit, Prepare, before, same_version, same_exec, exec_before}
 use Rattle.morty_base.proofs.Orders.{exec_before_total}
+use Rattle.protocol.specs.Words.{Exec, Version, Body, Envelope, Choice, Abandon, ToCommit, Prepare, before, same_version, same_exec, exec_before}
 use Rattle.protocol.specs.Lists.{IsIn}
 use Rattle.protocol.specs.Client.State.{Attempt}
 use Rattle.protocol.specs.World.State.{Plan, World}
 use Rattle.protocol.specs.World.Decided.{decided_by, WasSent, Committed, IsOf}
 use Rattle.protocol.specs.World.Committed.{nodes, is_commit_choice, is_committed, CommittedExec, put_committed, sorted_committed, attempt_at, of_attempt, committed_in, committed_executions}
-use Rattle.law_safety.proofs.OneContent.{same_prepared}
-use Rattle.law_safety.specs.CommittedList.{IsRisingByExec, IsCommittedAs, IsCommittedList, CommittedList, CommittedListOf}
 use Rattle.protocol.proofs.NamesLemmas.{exec_is, same_version_tells}
 use Rattle.protocol.proofs.ListsLemmas.{flat_map_in, IsIn-flat_map}
-use Rattle.law_steps.proofs.TakenLemmas.{true_false}
+use Rattle.protocol.proofs.TestLemmas.{true_false}
 use Rattle.law_steps.proofs.VotesLemmas.{any_true, any_in}
 use Rattle.law_steps.proofs.Reach.{Reach}
+use Rattle.law_steps.proofs.AlwaysLemmas.{always}
+use Rattle.law_safety.specs.CommittedList.{IsRisingByExec, IsCommittedAs, IsCommittedList, CommittedList, CommittedListOf}
+use Rattle.law_safety.proofs.OneContent.{same_prepared}
 use Rattle.law_safety.proofs.CommitIsSent.{committed_sent}
 use Rattle.law_safety.proofs.OneExecution.{committed_prepared}
 use Rattle.law_safety.proofs.OneTry.{tried, one_attempt}
 use Rattle.law_safety.proofs.RisingLemmas.{IsStrict, same_members}
 use Rattle.law_safety.proofs.Absent.{decider}
-use Rattle.law_steps.proofs.AlwaysLemmas.{always}
 
 -- the order of executions
 exec_chain : (x y z : Exec) → exec_before x y ≡ true → exec_before y z ≡ true → exec_before x z ≡ true

@@ -4,7 +4,6 @@ use Rattle.protocol.specs.Words.{Exec, Ending, Content, Prepare}
 use Rattle.protocol.specs.Lists.{IsIn}
 use Rattle.protocol.specs.Client.State.{Attempt, ClientState, content, walk}
 use Rattle.protocol.specs.World.State.{Plan, World, rules}
-use Rattle.law_safety.specs.Replays.{IsReplay, HasReplay, ContentsReplayed, ContentsReplayedOf}
 use Rattle.protocol.specs.World.Decided.{WasSent}
 use Rattle.law_steps.proofs.PhaseLemmas.{running_under_way}
 use Rattle.law_steps.proofs.Reach.{Reach}
@@ -13,8 +12,9 @@ use Rattle.law_steps.proofs.ClientFacts.{rec_reach}
 use Rattle.law_steps.proofs.Origin.{Origin, origin}
 use Rattle.law_steps.proofs.Origin.Origin.{Old, Of_replica, Of_client, Of_warden}
 use Rattle.law_steps.proofs.TryRec.{try_rec}
-use Rattle.law_safety.proofs.OneExecution.{kept_attempt}
 use Rattle.law_steps.proofs.AlwaysLemmas.{always_of_any}
+use Rattle.law_safety.specs.Replays.{IsReplay, HasReplay, ContentsReplayed, ContentsReplayedOf}
+use Rattle.law_safety.proofs.OneExecution.{kept_attempt}
 
 -- the content that a client prepares
 content_replay : (p : Plan) (c : ClientState) (x : Exec) (a : Attempt) (e : Ending) (k : Content) → c.begun ≡ a.txn → (walk (rules p x.ver.client) c).ending ≡ Some e → k ≡ content (rules p x.ver.client) c e → IsReplay p x a k

@@ -9,15 +9,15 @@ use Rattle.protocol.specs.Client.State.{CountedVote}
 use Rattle.protocol.specs.Quorums.{quorum, Quorum, HasNoRepeats}
 use Rattle.protocol.specs.Client.Counting.{count_votes, is_final_vote}
 use Rattle.protocol.specs.World.State.{Plan, World}
+use Rattle.protocol.specs.World.Decided.{WasSent}
 use Rattle.protocol.proofs.ListsLemmas.{IsIn-cases}
 use Rattle.protocol.proofs.QuorumsLemmas.{distinct_few, decide_in}
+use Rattle.protocol.proofs.DistinctLemmas.{distinct_more}
 use Rattle.law_steps.proofs.Reach.{Reach}
 use Rattle.law_steps.proofs.ReplicaFacts.{AcceptedFact}
-use Rattle.law_safety.proofs.OneProposal.{one_view}
-use Rattle.protocol.specs.World.Decided.{WasSent}
-use Rattle.law_safety.proofs.LocksLemmas.{accepted_sent}
 use Rattle.law_safety.specs.Locks.{VotedCommit, HasAccepted}
-use Rattle.protocol.proofs.DistinctLemmas.{distinct_more}
+use Rattle.law_safety.proofs.OneProposal.{one_view}
+use Rattle.law_safety.proofs.LocksLemmas.{accepted_sent}
 use Rattle.law_safety.proofs.ClientEvidence.{Evidence}
 
 -- the counted votes that pass are those of distinct replicas

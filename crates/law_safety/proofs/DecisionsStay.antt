@@ -15,14 +15,14 @@ use Rattle.law_steps.proofs.KnownLemmas.{mapped_some, found, some_from}
 use Rattle.law_steps.proofs.Reach.{Step, Reach, From, from_trans, events_reach, HeardAt}
 use Rattle.law_steps.proofs.Reach.From.{Begins, Next}
 use Rattle.law_steps.proofs.WardenFacts.{ward_stays, wrec_reach, wardens_positive, wardens_range}
+use Rattle.law_steps.proofs.AlwaysLemmas.{always}
+use Rattle.law_steps.proofs.Induction.{warden_in_step, on_worlds}
 use Rattle.law_safety.specs.Agreement.{DecisionsStay, DecisionsStayOf}
 use Rattle.law_safety.proofs.LocksLemmas.{replica_grows, sent_grows}
 use Rattle.law_safety.proofs.LocksStay.{decision_grows}
 use Rattle.law_safety.proofs.TruncationSettles.{apart_locks}
 use Rattle.law_safety.proofs.InvariantHolds.{safe_reach}
 use Rattle.law_safety.proofs.CommitIsSent.{decided_by_sent, find_in}
-use Rattle.law_steps.proofs.AlwaysLemmas.{always}
-use Rattle.law_steps.proofs.Induction.{warden_in_step, on_worlds}
 
 -- what a warden decided stays
 ward_decision_grows : (p : Plan) (w w' : World) → Reach p w → Step p w w' → (k : ℕ) (x : Exec) (d : Choice) (o : Option Content) →

@@ -1,21 +1,21 @@
 -- What a write that a replica holds is.
 use Rattle.std.specs.Prelude.{length, ◌||◌, ◌==◌, nat_lt, nat_le, not, suc, map, filter, filter_map, ◌&&◌}
 use Rattle.std.specs.List.{list_any, cons_option}
-use Rattle.protocol.specs.Words.{Puts, same_version, Exec, Version, Wid, Key, Envelope, BaseEntry, Body, Kept, Write, no_version, before, same_key, wid_before}
 use Rattle.std.specs.Bool.{then_some}
-use Rattle.protocol.specs.Replica.Held.{Put, put_after, larger, last_put, abandons, kept_put, counting_put, first_held, last_write, best_below, held, latest}
 use Rattle.std.proofs.Common.{◌≡◌, ℕ, ◌⊎◌, inl, inr, refl, ap, sym, ◌∙◌, subst, true, false, Bool, cond, List, [], ◌∷◌, Option, Some, None, arith}
 use Rattle.std.specs.Option.{option_or}
+use Rattle.protocol.specs.Words.{Puts, same_version, Exec, Version, Wid, Key, Envelope, BaseEntry, Body, Kept, Write, no_version, before, same_key, wid_before}
+use Rattle.protocol.specs.Replica.Held.{Put, put_after, larger, last_put, abandons, kept_put, counting_put, first_held, last_write, best_below, held, latest}
 use Rattle.protocol.specs.Lists.{IsIn}
 use Rattle.protocol.specs.Replica.Taken.{Handled, dropped, base}
 use Rattle.protocol.specs.Replica.Acceptor.{commits}
 use Rattle.protocol.specs.declared.First2.{First2}
 use Rattle.protocol.specs.declared.Held.{Held}
 use Rattle.protocol.specs.Warden.Base.{entries_of}
-use Rattle.protocol.proofs.TestLemmas.{and_left}
+use Rattle.protocol.proofs.TestLemmas.{true_false, and_left}
 use Rattle.protocol.proofs.NamesLemmas.{key_is, key_itself, wid_itself, wid_within}
 use Rattle.protocol.proofs.ListsLemmas.{IsIn-cases, IsIn-map}
-use Rattle.law_steps.proofs.TakenLemmas.{true_false, IsIn-filtered}
+use Rattle.law_steps.proofs.TakenLemmas.{IsIn-filtered}
 use Rattle.law_safety.proofs.BaseEntries.{entry_wid}
 
 last_none : (x : Exec) (s : Bool) (i : ℕ) (k : Key) (ws : List Write) → last_write x s i k ws ≡ None → (e : BaseEntry) → IsIn e (entries_of x i ws) → e.key ≡ k → ⊥

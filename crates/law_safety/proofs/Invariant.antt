@@ -2,11 +2,11 @@
 use Rattle.std.proofs.Common.{◌≡◌, ℕ, ◌⊎◌, List, Option, Some}
 use Rattle.protocol.specs.Words.{Version, Exec, BaseEntry, Drops, Decide, Content, Final, Abandon, ToCommit}
 use Rattle.protocol.specs.World.Decided.{UpTo, WasSent}
-use Rattle.law_safety.proofs.BaseEntries.{Bases}
 use Rattle.protocol.specs.Replica.Votes.{vote}
 use Rattle.protocol.specs.Quorums.{Quorum}
 use Rattle.protocol.specs.World.State.{World}
 use Rattle.law_safety.specs.Locks.{VotedCommit, AbandonLock, CommitLock}
+use Rattle.law_safety.proofs.BaseEntries.{Bases}
 use Rattle.law_safety.proofs.LocksLemmas.{Proposals}
 
 -- the invariants of proposals and decisions

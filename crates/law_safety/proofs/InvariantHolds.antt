@@ -8,33 +8,34 @@ use Rattle.protocol.specs.Replica.Acceptor.{decided, commits}
 use Rattle.protocol.specs.Replica.Votes.{casts, new_cast, verdict, vote, Cast, conflicts, conflicts_with_base}
 use Rattle.protocol.specs.World.State.{Plan, World, rules, warden_rules}
 use Rattle.protocol.specs.World.Decided.{WasSent, UpTo}
-use Rattle.law_safety.proofs.OneContent.{same_prepared}
+use Rattle.protocol.specs.Quorums.{Quorum}
+use Rattle.protocol.specs.Warden.Base.{entries_of}
+use Rattle.protocol.proofs.TestLemmas.{true_false}
 use Rattle.protocol.proofs.ReplicaGrows.{decided_stays}
 use Rattle.protocol.proofs.ListsLemmas.{IsIn-cases}
-use Rattle.protocol.specs.Quorums.{Quorum}
 use Rattle.protocol.proofs.QuorumsLemmas.{quorums_meet}
 use Rattle.law_steps.proofs.VotesLemmas.{new_vote, verdict_commit, earlier_settled, final_conflict, conflicts_both_ways, no_conflict_alike}
 use Rattle.law_steps.proofs.MailLemmas.{took_reach}
 use Rattle.law_steps.proofs.Reach.{Step, Reach, GotAt, HeardAt}
 use Rattle.law_steps.proofs.Reach.From.{Begins, Next}
 use Rattle.law_steps.proofs.ReplicaFacts.{well_reach, taking_reach}
-use Rattle.law_safety.proofs.OneProposal.{one_reach}
+use Rattle.law_steps.proofs.Origin.{Origin, origin}
+use Rattle.law_steps.proofs.Origin.Origin.{Old, Of_replica, Of_client, Of_warden}
+use Rattle.law_steps.proofs.TakenLemmas.{takes_above, cast_is, cast_above_none, dropped_taken, no_base}
+use Rattle.law_steps.proofs.Induction.{replica_in_step}
 use Rattle.law_safety.specs.Locks.{VotedCommit, Shut, AbandonLock}
-use Rattle.law_safety.proofs.LocksLemmas.{locks_clash, cast_found, sent_grows, voted_prepared}
 use Rattle.law_safety.specs.Locks.Shut.{Conflicting}
 use Rattle.law_safety.specs.Locks.AbandonLock.{All_shut}
+use Rattle.law_safety.proofs.OneContent.{same_prepared}
+use Rattle.law_safety.proofs.OneProposal.{one_reach}
+use Rattle.law_safety.proofs.LocksLemmas.{locks_clash, cast_found, sent_grows, voted_prepared}
 use Rattle.law_safety.proofs.LocksStay.{CommitGround, abandon_lock_stays, cast_sent}
-use Rattle.law_steps.proofs.Origin.{Origin, origin}
 use Rattle.law_safety.proofs.WardenEvidence.{decided_sent}
 use Rattle.law_safety.proofs.Invariant.{Safe}
 use Rattle.law_safety.proofs.InvariantStep.{proposals_step, abandoned_step, committed_step}
-use Rattle.protocol.specs.Warden.Base.{entries_of}
-use Rattle.law_steps.proofs.Origin.Origin.{Old, Of_replica, Of_client, Of_warden}
-use Rattle.law_steps.proofs.TakenLemmas.{takes_above, cast_is, cast_above_none, dropped_taken, no_base}
 use Rattle.law_safety.proofs.BaseEntries.{HasEntry, Written, entry_conflict, dropped_conflict, dropped_sent}
 use Rattle.law_safety.proofs.ShapedBodies.{commit_sent, client_no_drop, ward_dropped}
 use Rattle.law_safety.proofs.TruncationSettles.{commit_prepared, apart_locks, CommitSent, each_or, is_commit, cut_now, base_holds, base_written}
-use Rattle.law_steps.proofs.Induction.{replica_in_step}
 
 module _ (p : Plan) (pos : 0 < p.replicas) where
   -- the content of a commit is that of the cast
@@ -61,9 +62,6 @@ module _ (p : Plan) (pos : 0 < p.replicas) where
 
   abbrev pub IsTwo : Handled → Type 0
   IsTwo h = (c d : Cast) → IsIn c (casts h) → IsIn d (casts h) → c.vote ≡ Commit → d.vote ≡ Commit → conflicts c.exec.ver c.content d.exec.ver d.content ≡ true → SetApart h c d ⊎ SetApart h d c
-
-  true_false : true ≡ false → ⊥
-  true_false e = cc
 
   two_cons : (w : World) (q : Reach p w) → Safe p.replicas w → (r : ℕ) (m : Envelope) → takes (w.replica r) m.body ≡ true → IsTwo (w.replica r) → IsTwo (m ∷ w.replica r)
   two_cons w q s r m tk t c d i j v u f = go (IsIn-cases c (new_cast (w.replica r) (casts (w.replica r)) m.body) (casts (w.replica r)) i) (IsIn-cases d (new_cast (w.replica r) (casts (w.replica r)) m.body) (casts (w.replica r)) j)

@@ -1,3 +1,4 @@
+-- A step keeps what proposals follow, and locks what is decided in it.
 use Rattle.std.proofs.Common.{[], ◌≡◌, ℕ, ◌<◌, ◌≤◌, ◌+◌, ◌*◌, ◌⊎◌, inl, inr, refl, ap, sym, ◌∙◌, subst, List, ◌∷◌, Option, Some, None, length, arith}
 use Rattle.std.specs.Prelude.{map}
 use Rattle.protocol.specs.Words.{Exec, Client, Envelope, Body, Content, Commit, Final, Choice, Abandon, ToCommit, Prepare, Finalize, Decide}
@@ -12,7 +13,9 @@ use Rattle.protocol.specs.Client.State.Phase.{Between, Prepared}
 use Rattle.protocol.specs.Warden.State.{ToldAnswer, Proposal, WardenState}
 use Rattle.protocol.specs.Warden.Recovery.{fixed}
 use Rattle.protocol.specs.World.State.{Plan, World, rules, warden_rules}
+use Rattle.protocol.specs.World.Decided.{WasSent}
 use Rattle.protocol.proofs.ListsLemmas.{IsIn-cases, at_same}
+use Rattle.law_steps.specs.Executions.{Over}
 use Rattle.law_steps.proofs.PhaseLemmas.{running_under_way, prepared_under_way, running_between, open_between}
 use Rattle.law_steps.proofs.ClientActs.{IsRunning, IsUnderWay, IsOpen}
 use Rattle.law_steps.proofs.ClientActs.Reason.{All_commit, One_final, By_quorum}
@@ -21,26 +24,24 @@ use Rattle.law_steps.proofs.Reach.Step.{Warden_acts}
 use Rattle.law_steps.proofs.Reach.From.{Next}
 use Rattle.law_steps.proofs.ReplicaFacts.{AcceptedFact, ToldFact}
 use Rattle.law_steps.proofs.SendingLemmas.{from_to_all}
-use Rattle.law_steps.specs.Executions.{Over}
 use Rattle.law_steps.proofs.ClientFacts.{At, HasPrepared, HasProposed, rec_reach, said_new, not_at, running_prepared, open_proposed}
 use Rattle.law_steps.proofs.WardenFacts.{WFact, round_found}
 use Rattle.law_steps.proofs.Senders.{prepare_from, final_from, FinalFrom, warden_view}
 use Rattle.law_steps.proofs.ClientSent.{ProposalOf, in_single, proposal_of, DecisionOf, decision_of, Weighed, Gave_up}
 use Rattle.law_steps.proofs.Senders.FinalFrom.{By_client, By_warden}
-use Rattle.protocol.specs.World.Decided.{WasSent}
-use Rattle.law_safety.proofs.LocksLemmas.{sent_grows, Closed, Proposals, quorum_map, voted_grows}
+use Rattle.law_steps.proofs.Origin.{Origin, origin}
+use Rattle.law_steps.proofs.Origin.Origin.{Old, Of_replica, Of_client, Of_warden}
+use Rattle.law_steps.proofs.ClientSent.DecisionOf.{Weighed, Gave_up}
 use Rattle.law_safety.specs.Locks.{VotedCommit, HasAccepted, ClientDecided, Shut, AbandonLock, CommitLock}
 use Rattle.law_safety.specs.Locks.Shut.{Unsent}
 use Rattle.law_safety.specs.Locks.AbandonLock.{Accepted_abandon, All_shut}
 use Rattle.law_safety.specs.Locks.CommitLock.{Accepted_commit, Fast}
+use Rattle.law_safety.proofs.LocksLemmas.{sent_grows, Closed, Proposals, quorum_map, voted_grows}
 use Rattle.law_safety.proofs.LocksStay.{CommitGround, shut_stays, closed_stays, abandon_lock_stays, commit_lock_stays}
-use Rattle.law_steps.proofs.Origin.{Origin, origin}
-use Rattle.law_steps.proofs.Origin.Origin.{Old, Of_replica, Of_client, Of_warden}
 use Rattle.law_safety.proofs.ClientEvidence.{evident_reach}
 use Rattle.law_safety.proofs.WardenEvidence.{PartFact, ward_reach}
 use Rattle.law_safety.proofs.Invariant.{Safe}
 use Rattle.law_safety.proofs.ChoiceOfTolds.{fixed_chosen, chosen_below, chosen_abandon, chosen_commit}
-use Rattle.law_steps.proofs.ClientSent.DecisionOf.{Weighed, Gave_up}
 use Rattle.law_safety.proofs.CountedQuorums.{commit_quorum, all_voted, a_final, accept_quorum, everyone}
 use Rattle.law_safety.proofs.WardenSent.{DecidedRound, ward_decided}
 

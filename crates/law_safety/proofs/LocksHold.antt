@@ -3,16 +3,16 @@ use Rattle.std.proofs.Common.{◌≡◌, ℕ, refl, subst, Some}
 use Rattle.protocol.specs.Words.{Exec, NodeId, Client, Replica, Warden, Vote, Final, Voted, Abandon}
 use Rattle.protocol.specs.Replica.Votes.{vote}
 use Rattle.protocol.specs.World.Decided.{WasSent}
+use Rattle.protocol.specs.World.State.{Plan, World}
 use Rattle.law_steps.proofs.ReplicaFacts.{RFact, facts_reach}
 use Rattle.law_steps.proofs.ClientFacts.{CFact, client_facts_reach}
 use Rattle.law_steps.proofs.WardenFacts.{WFact, ward_facts_reach}
-use Rattle.protocol.specs.World.State.{Plan, World}
-use Rattle.law_safety.specs.Invariants.{LocksHold, LocksHoldOf}
 use Rattle.law_steps.proofs.Reach.{Reach}
+use Rattle.law_steps.proofs.AlwaysLemmas.{always}
+use Rattle.law_safety.specs.Invariants.{LocksHold, LocksHoldOf}
 use Rattle.law_safety.proofs.LocksLemmas.{locks_clash}
 use Rattle.law_safety.proofs.InvariantHolds.{safe_reach}
 use Rattle.law_safety.proofs.CommitIsSent.{decided_by_sent, committed_sent}
-use Rattle.law_steps.proofs.AlwaysLemmas.{always}
 
 -- a vote in the mail is that of a replica
 voted_by : (p : Plan) (w : World) → Reach p w → (x : Exec) (v : Vote) → WasSent w (Voted x v) → (r : ℕ) × (vote (w.replica r) x ≡ Some v)

@@ -1,4 +1,5 @@
-use Rattle.std.proofs.Common.{◌≡◌, ℕ, ◌<◌, ◌≤◌, ◌⊎◌, ◌≢◌, inl, inr, refl, ap, sym, ◌∙◌, true, false, Bool, cond, List, [], ◌∷◌, Option, Some, None, arith}
+-- What is locked both ways cannot be, and what a quorum accepted every later proposal carries.
+use Rattle.std.proofs.Common.{◌≡◌, ℕ, ◌<◌, ◌≤◌, ◌⊎◌, ◌≢◌, inl, inr, refl, ap, sym, ◌∙◌, true, false, Bool, cond, List, [], ◌∷◌, Option, Some, arith}
 use Rattle.std.specs.Prelude.{option_map}
 use Rattle.protocol.specs.Words.{Exec, Envelope, Body, Content, Vote, Commit, Choice, Abandon, ToCommit, Prepare, Finalize, same_exec}
 use Rattle.protocol.specs.Lists.{IsIn}
@@ -7,20 +8,20 @@ use Rattle.protocol.specs.Replica.Acceptor.{promised, Acceptance, acceptances, n
 use Rattle.protocol.specs.Replica.Votes.{casts, cast_on, new_cast, vote, Cast}
 use Rattle.protocol.specs.World.State.{Plan, World}
 use Rattle.protocol.specs.World.Decided.{WasSent}
-use Rattle.law_safety.specs.Locks.{VotedCommit, HasAccepted, Shut, AbandonLock, CommitLock}
-use Rattle.law_safety.specs.Locks.Shut.{Voted_other, Has_promised, Has_decided, Fenced_out, Unsent, Conflicting}
-use Rattle.law_safety.specs.Locks.AbandonLock.{Accepted_abandon, All_shut}
-use Rattle.law_safety.specs.Locks.CommitLock.{Accepted_commit, Fast}
-use Rattle.protocol.proofs.NamesLemmas.{same_exec_tells}
-use Rattle.protocol.proofs.ReplicaGrows.{cast_stays}
-use Rattle.protocol.proofs.ListsLemmas.{IsIn-right, IsIn-cases, IsIn-one_when}
 use Rattle.protocol.specs.Quorums.{Quorum}
+use Rattle.protocol.proofs.NamesLemmas.{same_exec_tells}
+use Rattle.protocol.proofs.ReplicaGrows.{vote_stays}
+use Rattle.protocol.proofs.ListsLemmas.{IsIn-right, IsIn-cases, IsIn-one_when}
 use Rattle.protocol.proofs.QuorumsLemmas.{quorums_meet}
 use Rattle.law_steps.proofs.AcceptorLemmas.{acceptance_taken}
 use Rattle.law_steps.proofs.Reach.{Step, Reach}
 use Rattle.law_steps.proofs.MailLemmas.{took_reach, mail_grows}
-use Rattle.law_safety.proofs.OneProposal.{one_view}
 use Rattle.law_steps.proofs.Induction.{replica_in_step}
+use Rattle.law_safety.specs.Locks.{VotedCommit, HasAccepted, Shut, AbandonLock, CommitLock}
+use Rattle.law_safety.specs.Locks.Shut.{Voted_other, Has_promised, Has_decided, Fenced_out, Unsent, Conflicting}
+use Rattle.law_safety.specs.Locks.AbandonLock.{Accepted_abandon, All_shut}
+use Rattle.law_safety.specs.Locks.CommitLock.{Accepted_commit, Fast}
+use Rattle.law_safety.proofs.OneProposal.{one_view}
 
 -- what more envelopes keep of a list, taking keeps, and each step keeps of each replica's
 pub taking_grows : (F : Handled → Type 0) → ((h : Handled) (m : Envelope) → F h → F (m ∷ h)) → (h : Handled) (m : Envelope) → F h → F (after_taking h m)
@@ -34,15 +35,8 @@ taking_grows F g h m f = go (takes h m.body)
 pub replica_grows : (p : Plan) (w w' : World) → Step p w w' → (F : Handled → Type 0) → ((h : Handled) (m : Envelope) → F h → F (m ∷ h)) → (r : ℕ) → F (w.replica r) → F (w'.replica r)
 replica_grows p w w' st F g = replica_in_step p w w' st (λ r h. F h) (λ s. taking_grows F g (w.replica s.r) s.m)
 
-pub vote_cons : (h : Handled) (m : Envelope) (x : Exec) (v : Vote) → vote h x ≡ Some v → vote (m ∷ h) x ≡ Some v
-vote_cons h m x v e = let k = option_cast (cast_on x (casts h)) e in rw (cast_stays h m x k.0 k.1) (ap Some k.2)
-  where
-    option_cast : (o : Option Cast) → option_map (λ (y : Cast). y.vote) o ≡ Some v → (y : Cast) × (o ≡ Some y) × (y.vote ≡ v)
-    option_cast None e = cc
-    option_cast (Some y) e = (y, refl, cc)
-
 pub voted_grows : (p : Plan) (w w' : World) → Step p w w' → (x : Exec) (v : Vote) (r : ℕ) → vote (w.replica r) x ≡ Some v → vote (w'.replica r) x ≡ Some v
-voted_grows p w w' s x v r e = replica_grows p w w' s (λ h. vote h x ≡ Some v) (λ h m. vote_cons h m x v) r e
+voted_grows p w w' s x v r e = replica_grows p w w' s (λ h. vote h x ≡ Some v) (λ h m. vote_stays h m x v) r e
 
 pub accepted_grows : (p : Plan) (w w' : World) → Step p w w' → (x : Exec) (v : ℕ) (d : Choice) (r : ℕ) → HasAccepted w x v d r → HasAccepted w' x v d r
 accepted_grows p w w' s x v d r e = replica_grows p w w' s (λ h. (a : Acceptance) × IsIn a (acceptances h) × (a.exec ≡ x) × (a.view ≡ v) × (a.choice ≡ d)) (λ h m k. (k.0, IsIn-right k.0 (new_acceptance h m.body) (acceptances h) k.1, k.2, k.3, k.4)) r e

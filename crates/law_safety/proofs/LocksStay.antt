@@ -1,3 +1,4 @@
+-- A replica that is shut to an execution stays so, and what is locked stays locked.
 use Rattle.std.proofs.Common.{◌≡◌, ℕ, ◌<◌, ◌≤◌, ◌+◌, ◌*◌, ◌≢◌, inl, inr, refl, sym, ◌∙◌, subst, true, false, Bool, cond, List, ◌∷◌, Option, Some, None, arith}
 use Rattle.std.specs.Prelude.{◌==◌}
 use Rattle.std.specs.Option.{is_none}
@@ -9,35 +10,36 @@ use Rattle.protocol.specs.Replica.Votes.{casts, cast_on, new_cast, vote, Cast, m
 use Rattle.protocol.specs.Client.State.{ClientState}
 use Rattle.protocol.specs.Client.State.Phase.{Between}
 use Rattle.protocol.specs.World.State.{Plan, World, rules}
-use Rattle.protocol.proofs.TestLemmas.{and_right, some_not_none}
-use Rattle.protocol.proofs.ReplicaGrows.{decided_stays, promised_grows}
+use Rattle.protocol.specs.World.Decided.{UpTo, WasSent}
+use Rattle.protocol.specs.World.Steps.{ByReplica}
+use Rattle.protocol.proofs.TestLemmas.{true_false, and_right, some_not_none}
+use Rattle.protocol.proofs.ReplicaGrows.{decided_stays, promised_grows, later_left}
 use Rattle.protocol.proofs.ListsLemmas.{IsIn-right, IsIn-cases}
+use Rattle.protocol.proofs.NamesLemmas.{up_to_trans}
+use Rattle.law_steps.specs.Executions.{IsEarlier, Over}
 use Rattle.law_steps.proofs.AcceptorLemmas.{vote_stands, vote_frozen, new_acceptance_is}
 use Rattle.law_steps.proofs.PhaseLemmas.{running_under_way, open_under, running_between, open_between}
-use Rattle.law_steps.specs.Executions.{IsEarlier, Over}
 use Rattle.law_steps.proofs.Reach.{Step, Reach, GotAt}
 use Rattle.law_steps.proofs.Reach.From.{Next}
 use Rattle.law_steps.proofs.ReplicaFacts.{well_reach, taking_reach}
 use Rattle.law_steps.proofs.VotesLemmas.{new_vote, verdict_commit, earlier_settled}
-use Rattle.law_safety.proofs.WardenEvidence.{decided_sent}
 use Rattle.law_steps.proofs.MailLemmas.{took_reach}
-use Rattle.protocol.specs.World.Decided.{UpTo, WasSent}
-use Rattle.law_steps.proofs.TakenLemmas.{up_to_trans, later_left, true_false, takes_above, cast_above_none}
-use Rattle.law_safety.proofs.BaseEntries.{Bases, dropped_conflict}
+use Rattle.law_steps.proofs.TakenLemmas.{takes_above, cast_above_none}
 use Rattle.law_steps.proofs.ClientFacts.{act_over, rec_reach, said_stays}
 use Rattle.law_steps.proofs.ClientSent.{sent_prepare, sent_finalize}
-use Rattle.law_safety.proofs.OneProposal.{one_reach}
 use Rattle.law_steps.proofs.ExecutionsLemmas.{earlier_itself}
 use Rattle.law_steps.proofs.Senders.{warden_view}
-use Rattle.law_safety.proofs.LocksLemmas.{sent_grows, Closed, replica_grows, voted_grows, accepted_grows, quorum_map, cast_prepare}
+use Rattle.law_steps.proofs.Origin.{Origin, origin}
+use Rattle.law_steps.proofs.Origin.Origin.{Old, Of_replica, Of_client, Of_warden}
+use Rattle.law_steps.proofs.Induction.{client_in_step, replica_in_step}
 use Rattle.law_safety.specs.Locks.{Shut, AbandonLock, CommitLock}
 use Rattle.law_safety.specs.Locks.Shut.{Voted_other, Has_promised, Has_decided, Fenced_out, Unsent, Conflicting}
 use Rattle.law_safety.specs.Locks.AbandonLock.{Accepted_abandon, All_shut}
 use Rattle.law_safety.specs.Locks.CommitLock.{Accepted_commit, Fast}
-use Rattle.law_steps.proofs.Origin.{Origin, origin}
-use Rattle.law_steps.proofs.Origin.Origin.{Old, Of_replica, Of_client, Of_warden}
-use Rattle.law_steps.proofs.Induction.{client_in_step, replica_in_step}
-use Rattle.protocol.specs.World.Steps.{ByReplica}
+use Rattle.law_safety.proofs.WardenEvidence.{decided_sent}
+use Rattle.law_safety.proofs.BaseEntries.{Bases, dropped_conflict}
+use Rattle.law_safety.proofs.OneProposal.{one_reach}
+use Rattle.law_safety.proofs.LocksLemmas.{sent_grows, Closed, replica_grows, voted_grows, accepted_grows, quorum_map, cast_prepare}
 
 -- what a client decided stays
 pub decision_grows : (p : Plan) (w w' : World) → Step p w w' → (c : ℕ) (x : Exec) (d : Choice) → IsIn (record { exec = x; choice = d }) (w.client c).decisions → IsIn (record { exec = x; choice = d }) (w'.client c).decisions

@@ -4,12 +4,12 @@ use Rattle.protocol.specs.Words.{Exec, Content, Prepare}
 use Rattle.protocol.specs.Replica.Votes.{conflicts}
 use Rattle.protocol.specs.World.State.{Plan, World}
 use Rattle.protocol.specs.World.Decided.{WasSent}
-use Rattle.law_safety.specs.Agreement.{NoConflict, NoConflictOf}
 use Rattle.law_steps.proofs.Reach.{Reach}
+use Rattle.law_steps.proofs.AlwaysLemmas.{always}
+use Rattle.law_safety.specs.Agreement.{NoConflict, NoConflictOf}
 use Rattle.law_safety.proofs.TruncationSettles.{apart_locks, CommitSent}
 use Rattle.law_safety.proofs.CommitIsSent.{committed_sent}
 use Rattle.law_safety.proofs.InvariantHolds.{both_reach, conflict_locks}
-use Rattle.law_steps.proofs.AlwaysLemmas.{always}
 
 module _ (p : Plan) (pos : 0 < p.replicas) where
   apart : (w : World) (q : Reach p w) → (x y : Exec) (k l : Content) → CommitSent w x → CommitSent w y → WasSent w (Prepare x k) → WasSent w (Prepare y l) → conflicts x.ver k y.ver l ≡ false

@@ -1,7 +1,7 @@
 -- All contents of an execution in the mail are equal.
 use Rattle.std.proofs.Common.{◌≡◌, ℕ, ◌<◌, inl, inr, refl, ap, sym, ◌∙◌, subst, List, [], ◌∷◌, Option, Some, None}
-use Rattle.protocol.specs.Words.{Exec, Envelope, Body, Content, Choice, Abandon, ToCommit, Prepare, Finalize, Decide, Told, Fenced, Kept}
 use Rattle.std.specs.Option.{option_or}
+use Rattle.protocol.specs.Words.{Exec, Envelope, Body, Content, Choice, Abandon, ToCommit, Prepare, Finalize, Decide, Told, Fenced, Kept}
 use Rattle.protocol.specs.Lists.{IsIn}
 use Rattle.protocol.specs.Replica.Taken.{Handled}
 use Rattle.protocol.specs.Client.State.{CountedVote}
@@ -10,30 +10,30 @@ use Rattle.protocol.specs.Client.State.Phase.{Prepared}
 use Rattle.protocol.specs.Warden.State.{WardenState, Round, ToldAnswer, Proposal, Parcel}
 use Rattle.protocol.specs.Warden.Recovery.{fixed, with_content, told_content}
 use Rattle.protocol.specs.World.State.{Plan, World, rules, warden_rules, first_world}
+use Rattle.protocol.specs.World.Decided.{HasContent, WasSent}
+use Rattle.protocol.proofs.ListsLemmas.{at_same, IsIn-right}
 use Rattle.law_steps.proofs.ClientActs.{ClientAct, IsQuiet}
 use Rattle.law_steps.proofs.ClientActs.ClientAct.{Quiet, Advances, Prepares, Counts, Proposes, Accepts, Decides, Gives_up, Learns}
-use Rattle.law_safety.proofs.ChoiceOfTolds.{chosen}
-use Rattle.protocol.proofs.ListsLemmas.{at_same, IsIn-right}
 use Rattle.law_steps.proofs.Reach.{Step, Reach, ByClientAct, ByWardenAct, GotAt, HeardAt}
 use Rattle.law_steps.proofs.Reach.From.{Next}
-use Rattle.protocol.specs.World.Decided.{HasContent, WasSent}
 use Rattle.law_steps.proofs.KnownLemmas.{Took, commit_taken, cast_taken}
 use Rattle.law_steps.proofs.FencedFacts.{kept_voted}
 use Rattle.law_steps.proofs.MailLemmas.{took_reach, taking_cases}
 use Rattle.law_steps.proofs.ReplicaFacts.{RFact}
 use Rattle.law_steps.proofs.WardenFacts.{WFact, round_found}
-use Rattle.law_safety.proofs.LocksLemmas.{sent_grows}
 use Rattle.law_steps.proofs.Origin.{Origin, origin}
 use Rattle.law_steps.proofs.SendingLemmas.{parcel_body}
 use Rattle.law_steps.proofs.Origin.Origin.{Old, Of_replica, Of_client, Of_warden}
-use Rattle.law_safety.proofs.ClientEvidence.{evident_reach}
-use Rattle.law_safety.proofs.WardenEvidence.{ward_reach}
 use Rattle.law_steps.proofs.ClientSent.{quiet_not, in_single, in_none}
-use Rattle.law_safety.proofs.WardenSent.{ward_decided}
-use Rattle.law_safety.specs.Invariants.{OneContent, OneContentOf}
-use Rattle.law_safety.proofs.OneProposal.{one_reach}
 use Rattle.law_steps.proofs.AlwaysLemmas.{always}
 use Rattle.law_steps.proofs.Induction.{replica_in_step, on_worlds}
+use Rattle.law_safety.specs.Invariants.{OneContent, OneContentOf}
+use Rattle.law_safety.proofs.ChoiceOfTolds.{chosen}
+use Rattle.law_safety.proofs.LocksLemmas.{sent_grows}
+use Rattle.law_safety.proofs.ClientEvidence.{evident_reach}
+use Rattle.law_safety.proofs.WardenEvidence.{ward_reach}
+use Rattle.law_safety.proofs.WardenSent.{ward_decided}
+use Rattle.law_safety.proofs.OneProposal.{one_reach}
 
 -- each content in the mail is that of a Prepare
 pub record Prepared_contents (w : World) : Type 0 where

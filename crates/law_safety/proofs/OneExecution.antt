@@ -6,11 +6,10 @@ use Rattle.protocol.specs.Client.State.{Rules, ClientState, Decision, Attempt}
 use Rattle.protocol.specs.Client.State.Phase.{Between}
 use Rattle.protocol.specs.World.State.{Plan, World, rules, first_world}
 use Rattle.protocol.specs.World.Decided.{WasSent, IsOf}
-use Rattle.law_steps.specs.Executions.{IsEarlier}
-use Rattle.law_steps.proofs.ExecutionsLemmas.{exec_order, earlier_itself}
-use Rattle.law_safety.specs.Tries.{OneExecution, OneExecutionOf}
 use Rattle.protocol.proofs.ListsLemmas.{at_same}
 use Rattle.protocol.proofs.QuorumsLemmas.{quorums_meet}
+use Rattle.law_steps.specs.Executions.{IsEarlier}
+use Rattle.law_steps.proofs.ExecutionsLemmas.{exec_order, earlier_itself}
 use Rattle.law_steps.proofs.PhaseLemmas.{running_under_way, running_between}
 use Rattle.law_steps.proofs.ClientActs.{ClientAct, IsRunning, TryStep}
 use Rattle.law_steps.proofs.ClientActs.TryStep.{Keeps, Next_exec, Next_try}
@@ -18,17 +17,18 @@ use Rattle.law_steps.proofs.ClientActs.ClientAct.{Quiet, Advances, Prepares, Cou
 use Rattle.law_steps.proofs.Reach.{Step, Reach, GotAt}
 use Rattle.law_steps.proofs.ClientFacts.{At, HasPrepared, rec_reach, not_at, running_prepared}
 use Rattle.law_steps.proofs.Senders.{prepare_from}
-use Rattle.law_safety.proofs.LocksLemmas.{voted_prepared}
 use Rattle.law_steps.proofs.Origin.{Origin, origin}
 use Rattle.law_steps.proofs.Origin.Origin.{Old, Of_replica, Of_client, Of_warden}
-use Rattle.law_safety.proofs.ClientEvidence.{decisions_reach}
 use Rattle.law_steps.proofs.ClientSent.{quiet_not, in_single, in_none}
-use Rattle.law_safety.proofs.TruncationSettles.{CommitSent, apart_locks}
-use Rattle.law_safety.proofs.InvariantHolds.{safe_reach}
-use Rattle.law_safety.proofs.CommitIsSent.{committed_sent}
 use Rattle.law_steps.proofs.TryRec.{try_rec, client_tries}
 use Rattle.law_steps.proofs.AlwaysLemmas.{always}
 use Rattle.law_steps.proofs.Induction.{on_worlds}
+use Rattle.law_safety.specs.Tries.{OneExecution, OneExecutionOf}
+use Rattle.law_safety.proofs.LocksLemmas.{voted_prepared}
+use Rattle.law_safety.proofs.ClientEvidence.{decisions_reach}
+use Rattle.law_safety.proofs.TruncationSettles.{CommitSent, apart_locks}
+use Rattle.law_safety.proofs.InvariantHolds.{safe_reach}
+use Rattle.law_safety.proofs.CommitIsSent.{committed_sent}
 
 -- a Prepare of client c that was sent in a step is of the execution under way
 prepares_act : (r : Rules) (Got : NodeId → Body → Type 0) (s s' : ClientState) (sent : List Body) → ClientAct r Got s s' sent → (x : Exec) (k : Content) → IsIn (Prepare x k) sent → (x ≡ s.exec) × IsRunning s.phase × (s'.exec ≡ s.exec)

@@ -1,3 +1,4 @@
+-- All Prepares of an execution carry one content, and all its Finalizes of one view one choice.
 use Rattle.std.proofs.Common.{◌≡◌, ℕ, ◌<◌, ◌≤◌, ◌+◌, ◌*◌, ◌⊎◌, inl, inr, ap, sym, ◌∙◌, subst, List, [], ◌∷◌, ◌++◌, Option, Some, arith}
 use Rattle.std.specs.Prelude.{flat_map, suc}
 use Rattle.std.proofs.Math.Nat.{mul-le-mul_right}
@@ -8,9 +9,9 @@ use Rattle.protocol.specs.Warden.State.{Round, Proposal}
 use Rattle.protocol.specs.Warden.Recovery.{round_of}
 use Rattle.protocol.specs.World.State.{Plan, World, rules}
 use Rattle.protocol.specs.World.Events.{to_all}
+use Rattle.protocol.proofs.ListsLemmas.{IsIn-cases, IsIn-right}
 use Rattle.law_steps.proofs.PhaseLemmas.{running_under_way, open_under, running_between, open_between}
 use Rattle.law_steps.proofs.ClientActs.{IsRunning, IsUnderWay, IsOpen}
-use Rattle.protocol.proofs.ListsLemmas.{IsIn-cases, IsIn-right}
 use Rattle.law_steps.proofs.SaysLemmas.{spoken}
 use Rattle.law_steps.proofs.Reach.{Step, Reach, ByClientAct, GotAt}
 use Rattle.law_steps.proofs.Reach.Step.{Stands, Client_acts, Replica_acts, Warden_acts}

@@ -4,12 +4,12 @@ use Rattle.protocol.specs.Words.{Exec, Version}
 use Rattle.protocol.specs.Client.State.{Attempt}
 use Rattle.protocol.specs.World.State.{Plan, World}
 use Rattle.protocol.specs.World.Decided.{Committed, IsOf}
-use Rattle.law_safety.specs.Tries.{OneTry, OneTryOf}
 use Rattle.law_steps.proofs.Reach.{Reach}
-use Rattle.law_safety.proofs.CommitIsSent.{committed_sent}
 use Rattle.law_steps.proofs.TryRec.{try_rec, falling_one}
-use Rattle.law_safety.proofs.OneExecution.{single_reach, committed_prepared}
 use Rattle.law_steps.proofs.AlwaysLemmas.{always}
+use Rattle.law_safety.specs.Tries.{OneTry, OneTryOf}
+use Rattle.law_safety.proofs.CommitIsSent.{committed_sent}
+use Rattle.law_safety.proofs.OneExecution.{single_reach, committed_prepared}
 
 module _ (p : Plan) (pos : 0 < p.replicas) (w : World) (q : Reach p w) where
   pub tried : (x : Exec) → Committed w x → (a : Attempt) × IsOf w x a

@@ -1,7 +1,7 @@
 -- A rising list is fixed by its members.
 use Rattle.std.proofs.Common.{◌≡◌, ◌⊎◌, inl, inr, refl, ap, sym, ◌∙◌, subst, true, false, Bool, List, [], ◌∷◌}
 use Rattle.protocol.specs.Lists.{IsIn, IsRisingBy}
-use Rattle.law_steps.proofs.TakenLemmas.{true_false}
+use Rattle.protocol.proofs.TestLemmas.{true_false}
 
 -- nothing is before itself, and what is before is so along a chain
 pub record IsStrict {A : Type 0} (earlier : A → A → Bool) : Type 0 where

@@ -15,8 +15,8 @@ use Rattle.protocol.specs.Warden.State.Parcel.{To_all}
 use Rattle.protocol.specs.Warden.Truncation.{to_recover}
 use Rattle.protocol.specs.Warden.Base.{base_of}
 use Rattle.protocol.specs.World.State.{Plan, World, rules, warden_rules}
-use Rattle.protocol.proofs.ListsLemmas.{IsIn-cases, IsIn-one_when, at_same}
 use Rattle.protocol.specs.World.Decided.{WasSent}
+use Rattle.protocol.proofs.ListsLemmas.{IsIn-cases, IsIn-one_when, at_same}
 use Rattle.law_steps.proofs.MailLemmas.{took_reach}
 use Rattle.law_steps.proofs.ClientActs.{ClientAct}
 use Rattle.law_steps.proofs.ClientActs.ClientAct.{Quiet, Advances, Prepares, Counts, Proposes, Accepts, Decides, Gives_up, Learns}
@@ -27,8 +27,8 @@ use Rattle.law_steps.proofs.Reach.From.{Begins, Next}
 use Rattle.law_steps.proofs.SendingLemmas.{parcel_body}
 use Rattle.law_steps.proofs.Origin.{Origin, origin}
 use Rattle.law_steps.proofs.Origin.Origin.{Old, Of_replica, Of_client, Of_warden}
-use Rattle.law_safety.proofs.WardenEvidence.{ward_reach}
 use Rattle.law_steps.proofs.ClientSent.{quiet_not, in_single, in_none}
+use Rattle.law_safety.proofs.WardenEvidence.{ward_reach}
 use Rattle.law_safety.proofs.WardenSent.{ward_decided, in_parcels, no_parcels, to_client_body}
 
 pub commit_decided : (h : Handled) (l : Kept) → IsIn l (commits h) → (m : Envelope) × IsIn m h × (m.body ≡ Decide l.exec ToCommit (Some l.content))

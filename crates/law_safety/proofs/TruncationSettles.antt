@@ -1,6 +1,4 @@
-use Rattle.protocol.proofs.QuorumsLemmas.{named_quorum, quorums_meet}
-use Rattle.law_safety.proofs.OneContent.{same_prepared, contents_reach}
-use Rattle.law_steps.proofs.KnownLemmas.{choice_cases, found}
+-- When a truncation has its answers, what is at or below its version is settled, and its base holds what was committed there.
 use Rattle.std.proofs.Common.{[], ◌≡◌, ℕ, ◌<◌, ◌≤◌, ◌⊎◌, ◌≢◌, inl, inr, refl, ap, sym, ◌∙◌, subst, true, false, Bool, cond, List, ◌∷◌, ◌++◌, Option, Some, None, length}
 use Rattle.std.specs.Prelude.{map, flat_map, not}
 use Rattle.std.specs.Option.{is_some}
@@ -15,21 +13,24 @@ use Rattle.protocol.specs.Warden.State.{DecidedProposal, FencedAnswer, Truncatio
 use Rattle.protocol.specs.Warden.Truncation.{named_committed, to_recover}
 use Rattle.protocol.specs.Warden.Base.{put_entries, entries_of, kept_entries, decided_entries_of, decided_entries, base_of}
 use Rattle.protocol.specs.World.State.{Plan, World}
-use Rattle.law_safety.specs.Bases.{IsNamedByAnswers}
-use Rattle.law_safety.specs.Bases.IsNamedByAnswers.{As_committed as Names_committed, As_voted as Names_voted, Below_dropped}
-use Rattle.protocol.proofs.NamesLemmas.{exec_is}
-use Rattle.protocol.proofs.ListsLemmas.{map_in, flat_map_in, all_in, IsIn-left, IsIn-right, IsIn-cases, IsIn-flat_map}
 use Rattle.protocol.specs.World.Decided.{UpTo, WasSent}
-use Rattle.law_steps.proofs.TakenLemmas.{up_to_trans, IsIn-filter}
+use Rattle.protocol.proofs.QuorumsLemmas.{named_quorum, quorums_meet}
+use Rattle.protocol.proofs.NamesLemmas.{exec_is, up_to_trans}
+use Rattle.protocol.proofs.ListsLemmas.{map_in, flat_map_in, all_in, IsIn-left, IsIn-right, IsIn-cases, IsIn-flat_map}
+use Rattle.law_steps.proofs.KnownLemmas.{choice_cases, found}
+use Rattle.law_steps.proofs.TakenLemmas.{IsIn-filter}
 use Rattle.law_steps.proofs.FencedFacts.{Named}
 use Rattle.law_steps.proofs.FencedFacts.Named.{As_committed, As_voted, As_abandoned, As_dropped}
 use Rattle.law_steps.proofs.VotesLemmas.{any_true}
 use Rattle.law_steps.proofs.MailLemmas.{took_reach}
 use Rattle.law_steps.proofs.Reach.{Reach}
+use Rattle.law_safety.specs.Bases.{IsNamedByAnswers}
+use Rattle.law_safety.specs.Bases.IsNamedByAnswers.{As_committed as Names_committed, As_voted as Names_voted, Below_dropped}
 use Rattle.law_safety.specs.Locks.{VotedCommit, Shut, AbandonLock}
-use Rattle.law_safety.proofs.LocksLemmas.{locks_clash, cast_found}
 use Rattle.law_safety.specs.Locks.Shut.{Fenced_out}
 use Rattle.law_safety.specs.Locks.AbandonLock.{All_shut}
+use Rattle.law_safety.proofs.OneContent.{same_prepared, contents_reach}
+use Rattle.law_safety.proofs.LocksLemmas.{locks_clash, cast_found}
 use Rattle.law_safety.proofs.BaseEntries.{HasEntry, Written}
 use Rattle.law_safety.proofs.WardenEvidence.{ward_reach, decided_sent, FencedPartFact}
 use Rattle.law_safety.proofs.Invariant.{Safe}

@@ -8,22 +8,23 @@ use Rattle.protocol.specs.Replica.Acceptor.{commits}
 use Rattle.protocol.specs.Replica.Votes.{casts, Cast, verdict, conflicts_with_base, writes_key}
 use Rattle.protocol.specs.World.State.{Plan, World}
 use Rattle.protocol.specs.World.Decided.{UpTo, WasSent}
-use Rattle.law_safety.proofs.OneContent.{same_prepared, contents_reach}
-use Rattle.law_safety.specs.Bases.{MissesAt, TwoVotes, VotesTwice, IsOvertaken, TwoVotesOf}
-use Rattle.protocol.proofs.NamesLemmas.{key_itself}
+use Rattle.protocol.proofs.NamesLemmas.{key_itself, up_to_trans, before_up_to, before_then, then_before, before_self}
 use Rattle.protocol.proofs.ListsLemmas.{IsIn-right}
+use Rattle.protocol.proofs.TestLemmas.{true_false}
 use Rattle.law_steps.proofs.KnownLemmas.{IsWell}
-use Rattle.law_steps.proofs.TakenLemmas.{up_to_trans, before_up_to, before_then, then_before, true_false, takes_above, cast_is, cast_above_none, before_self, IsTaking}
+use Rattle.law_steps.proofs.TakenLemmas.{takes_above, cast_is, cast_above_none, IsTaking}
 use Rattle.law_steps.proofs.VotesLemmas.{any_in, verdict_commit, earlier_settled, conflicts_both_ways}
 use Rattle.law_steps.proofs.MailLemmas.{took_reach}
 use Rattle.law_steps.proofs.Reach.{Reach}
 use Rattle.law_steps.proofs.ReplicaFacts.{well_reach, taking_reach}
+use Rattle.law_steps.proofs.AlwaysLemmas.{always}
+use Rattle.law_safety.specs.Bases.{MissesAt, TwoVotes, VotesTwice, IsOvertaken, TwoVotesOf}
+use Rattle.law_safety.specs.Bases.IsOvertaken.{Decided_abandon, Was_dropped}
+use Rattle.law_safety.proofs.OneContent.{same_prepared, contents_reach}
 use Rattle.law_safety.proofs.BaseEntries.{both, or_left_in, entry_write, dropped_sent}
 use Rattle.law_safety.proofs.LocksLemmas.{cast_prepare}
 use Rattle.law_safety.proofs.ShapedBodies.{commit_decided}
 use Rattle.law_safety.proofs.InvariantHolds.{safe_reach}
-use Rattle.law_steps.proofs.AlwaysLemmas.{always}
-use Rattle.law_safety.specs.Bases.IsOvertaken.{Decided_abandon, Was_dropped}
 
 -- a list that another ends with
 taking_end : (later g : Handled) → IsTaking (later ++ g) → IsTaking g

@@ -1,10 +1,10 @@
 -- The proposals of one view carry one choice, and what a quorum accepted, those of higher views carry.
 use Rattle.std.proofs.Common.{sym}
+use Rattle.law_steps.proofs.AlwaysLemmas.{always}
 use Rattle.law_safety.specs.Invariants.{Views, ViewsOf}
 use Rattle.law_safety.proofs.OneProposal.{one_view}
 use Rattle.law_safety.proofs.LocksLemmas.{carried}
 use Rattle.law_safety.proofs.InvariantHolds.{safe_reach}
-use Rattle.law_steps.proofs.AlwaysLemmas.{always}
 
 pub views : Views
 views = always ViewsOf (λ p some w q. record {

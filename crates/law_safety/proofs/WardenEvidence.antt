@@ -1,8 +1,10 @@
+-- What a warden counted was sent by replicas, and what it proposed and decided it sent.
 use Rattle.std.proofs.Common.{◌≡◌, ℕ, ◌<◌, ◌≤◌, ◌⊎◌, inl, inr, refl, sym, ◌∙◌, subst, true, false, Bool, List, [], ◌∷◌, ◌++◌, Option, Some, None, length, arith}
 use Rattle.std.specs.Prelude.{flat_map, suc, map}
-use Rattle.protocol.specs.Words.{Exec, Replica, Warden, Envelope, Body, Content, Choice, Finalize, Decide, Told, same_exec, Version}
 use Rattle.std.specs.Bool.{then_some}
 use Rattle.std.specs.Option.{option_or}
+use Rattle.std.proofs.lemmas.List.{length-append}
+use Rattle.protocol.specs.Words.{Exec, Replica, Warden, Envelope, Body, Content, Choice, Finalize, Decide, Told, same_exec, Version}
 use Rattle.protocol.specs.Lists.{IsIn, upto}
 use Rattle.protocol.specs.Replica.Taken.{Handled}
 use Rattle.protocol.specs.Replica.Acceptor.{decided, choice_for}
@@ -10,13 +12,14 @@ use Rattle.protocol.specs.Quorums.{quorum, HasNoRepeats}
 use Rattle.protocol.specs.Warden.State.{WardenState, Round, ToldAnswer, Proposal, DecidedProposal, Parcel, FencedAnswer, Truncation}
 use Rattle.protocol.specs.Warden.Recovery.{with_accept, recover, fixed, to_client}
 use Rattle.protocol.specs.Warden.Truncation.{drop_sent}
-use Rattle.law_steps.proofs.FencedFacts.{FencedFact, fenced_more}
 use Rattle.protocol.specs.Warden.State.Parcel.{To_all}
 use Rattle.protocol.specs.World.State.{Plan, World, warden_rules}
 use Rattle.protocol.specs.World.Events.{parcel}
-use Rattle.std.proofs.lemmas.List.{length-append}
+use Rattle.protocol.specs.World.Decided.{WasSent}
 use Rattle.protocol.proofs.NamesLemmas.{exec_is}
-use Rattle.protocol.proofs.ListsLemmas.{IsIn-left, IsIn-right, IsIn-cases, map_in}
+use Rattle.protocol.proofs.ListsLemmas.{IsIn-left, IsIn-right, IsIn-cases, map_in, upto_in}
+use Rattle.protocol.proofs.DistinctLemmas.{distinct_more, distinct_map_more}
+use Rattle.law_steps.proofs.FencedFacts.{FencedFact, fenced_more}
 use Rattle.law_steps.proofs.WardenActs.{WardenAct, told_round}
 use Rattle.law_steps.proofs.WardenActs.WardenAct.{Rests, Asks, Counts_told, Counts_accepted, Begins_truncation, Counts_fenced, Ends_truncation}
 use Rattle.law_steps.proofs.Reach.{Step, Reach, ByWardenAct, HeardAt}
@@ -24,11 +27,9 @@ use Rattle.law_steps.proofs.Reach.Step.{Warden_acts}
 use Rattle.law_steps.proofs.MailLemmas.{took_reach}
 use Rattle.law_steps.proofs.ReplicaFacts.{RFact, ToldFact, AcceptedFact, facts_reach, fact_cons}
 use Rattle.law_steps.proofs.WardenFacts.{round_found, put_in}
-use Rattle.protocol.proofs.DistinctLemmas.{distinct_more, distinct_map_more}
-use Rattle.law_safety.proofs.ClientEvidence.{absent_id, accepted_fact_grows, upto_in}
-use Rattle.protocol.specs.World.Decided.{WasSent}
-use Rattle.law_safety.proofs.LocksLemmas.{sent_grows, replica_grows}
 use Rattle.law_steps.proofs.Induction.{on_wardens}
+use Rattle.law_safety.proofs.ClientEvidence.{absent_id, accepted_fact_grows}
+use Rattle.law_safety.proofs.LocksLemmas.{sent_grows, replica_grows}
 
 -- what a told part stands for
 abbrev pub PartFact : ℕ → World → Exec → ℕ → ToldAnswer → Type 0

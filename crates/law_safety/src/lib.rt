@@ -1,9 +1,22 @@
 //! The laws of safety, for every plan with a replica and every list of events: agreement, one execution, the base.
 //!
-//! Each law is the contract of a function with an empty body. One induction over the small steps of a world carries
-//! what was proposed, what is locked, what was decided, the Final votes and the bases of Drops, since each of these
-//! needs the others one step earlier: a proposal follows the locks below its view, a decision needs a lock, a Final
-//! vote and a Drop need decisions, and a later vote needs the base of an earlier Drop. The laws are read off from it.
+//! Each law is the contract of a function with an empty body, and the proof file of its name proves it. (A name of one
+//! word takes `Law` behind it: `AgreementLaw`, `ViewsLaw`.)
+//!
+//! One induction over the small steps of a world carries what was proposed, what is locked, what was decided, the Final
+//! votes and the bases of Drops (`Invariant`), since each of these needs the others one step earlier. It stands on what a
+//! step adds: one content and one choice a view (`OneProposal`, `OneContent`), locks that stay (`LocksLemmas`, `LocksStay`),
+//! what clients and wardens counted and sent (`ClientEvidence`, `WardenEvidence`, `WardenSent`, `CountedQuorums`,
+//! `ShapedBodies`), what stands in bases (`BaseLemmas`, `BaseEntries`). A warden's choice by its Tolds follows the locks
+//! below its view (`ChoiceOfTolds`), so a step keeps the locks (`InvariantStep`); a truncation that has its answers settles
+//! what is at or below its version (`TruncationSettles`); and both together with the Final votes are the induction
+//! (`InvariantHolds`).
+//!
+//! The laws are read off from it: on decisions (`CommitIsSent`, `AgreementLaw`, `DecisionsStay`, `NoConflict`), on what they
+//! rest on (`CommitNeedsVotes`, `AbandonProposals`, `ViewsLaw`, `LocksHold`, `AnswersTell`), on tries (`OneExecution`,
+//! `OneTry`), on the outcome (`CommittedList`, by `RisingLemmas` and `Absent`), on bases (`BaseIsOne`, `BaseOfWorld`,
+//! `DropSettles`, `BaseOfDrop`, `FenceNames`, `TwoVotes`), and on contents (`ContentsReplayed`). What a replica holds
+//! (`HeldLemmas`) is for the laws on reads above.
 #![tactic(auto)]
 
 ghost use Rattle.law_safety.specs.Agreement.{Agreement, DecisionsStay, NoConflict};

@@ -12,7 +12,7 @@ use Rattle.protocol.specs.declared.First2.{First2}
 use Rattle.protocol.specs.Replica.Held.{first_held}
 use Rattle.protocol.specs.World.Committed.{CommittedExec}
 use Rattle.protocol.proofs.NamesLemmas.{key_is, key_itself}
-use Rattle.law_steps.proofs.TakenLemmas.{true_false}
+use Rattle.protocol.proofs.TestLemmas.{true_false}
 use Rattle.law_safety.proofs.BaseEntries.{entry_wid}
 use Rattle.protocol_plans.specs.SerialOutcome.{first_map, entry_written, map_of}
 

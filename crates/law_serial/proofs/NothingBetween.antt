@@ -4,7 +4,7 @@ use Rattle.std.specs.Prelude.{◌&&◌}
 use Rattle.protocol.specs.Words.{Read, before}
 use Rattle.protocol.specs.Replica.Votes.{conflicts, misses, writes_key}
 use Rattle.law_serial.specs.NothingBetween.{NothingBetween}
-use Rattle.law_steps.proofs.TakenLemmas.{true_false}
+use Rattle.protocol.proofs.TestLemmas.{true_false}
 use Rattle.law_safety.proofs.BaseEntries.{both, or_left_in}
 use Rattle.law_steps.proofs.VotesLemmas.{any_in}
 use Rattle.law_safety.proofs.NoConflict.{no_conflict}

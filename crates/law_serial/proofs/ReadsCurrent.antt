@@ -7,7 +7,8 @@ use Rattle.protocol.specs.Warden.Base.{entries_of}
 use Rattle.protocol.specs.World.State.{Plan, World, first_world}
 use Rattle.protocol.specs.World.Events.{replay_from}
 use Rattle.protocol.specs.World.Decided.{WasSent}
-use Rattle.law_steps.proofs.TakenLemmas.{before_self, true_false}
+use Rattle.protocol.proofs.TestLemmas.{true_false}
+use Rattle.protocol.proofs.NamesLemmas.{before_self}
 use Rattle.law_steps.proofs.Reach.{Reach, events_reach}
 use Rattle.law_steps.proofs.Reach.From.{Begins}
 use Rattle.law_steps.proofs.ClientFacts.{CFact, client_facts_reach}

@@ -1,6 +1,7 @@
 -- The base of a world is the serial map at its version.
 use Rattle.std.proofs.Common.{◌≡◌, ◌<◌, inl, inr, refl, ap, sym, ◌∙◌, subst, true, false, Bool, cond, List, [], ◌∷◌, ◌++◌, append_assoc, Option, Some}
 use Rattle.std.specs.Prelude.{not, ◌||◌, ◌&&◌, nat_lt, ℤ, pos, unwrap_or}
+use Rattle.std.proofs.lemmas.Bool.{not-true}
 use Rattle.protocol.specs.Words.{Exec, Version, Wid, Key, BaseEntry, Content, Event, Write, Prepare, before, same_key, same_version, exec_before, wid_before}
 use Rattle.morty_base.proofs.Orders.{before_total}
 use Rattle.txn_lang.specs.Keys.{Entry, found}
@@ -13,11 +14,11 @@ use Rattle.protocol.specs.World.Events.{replay_from}
 use Rattle.protocol.specs.World.Decided.{WasSent, IsWrite, IsBase}
 use Rattle.protocol.specs.World.Committed.{CommittedExec, committed_executions, base_at}
 use Rattle.protocol_plans.specs.Scripted.{Scripted, plan_of}
-use Rattle.protocol.proofs.TestLemmas.{and_left}
+use Rattle.protocol.proofs.TestLemmas.{true_false, and_left}
 use Rattle.protocol.proofs.NamesLemmas.{key_is, version_is}
 use Rattle.protocol.proofs.ListsLemmas.{IsIn-left, IsIn-right}
 use Rattle.law_safety.proofs.OneContent.{same_prepared}
-use Rattle.law_steps.proofs.TakenLemmas.{true_false, IsIn-filter, IsIn-filtered}
+use Rattle.law_steps.proofs.TakenLemmas.{IsIn-filter, IsIn-filtered}
 use Rattle.law_steps.proofs.VotesLemmas.{any_true, any_in}
 use Rattle.law_steps.proofs.Reach.{events_reach}
 use Rattle.law_steps.proofs.Reach.From.{Begins}
@@ -60,10 +61,6 @@ later_wid : (a b : Wid) → before a.ver b.ver ≡ true → wid_before a b ≡ t
 unfolding wid_before
 later_wid a b e = or_true (before a.ver b.ver) _ e
 
-not_true : (t : Bool) → not t ≡ true → t ≡ false
-not_true true e = cc
-not_true false e = refl
-
 key_moved : (k a b : Key) → a ≡ b → same_key k a ≡ true → same_key k b ≡ true
 key_moved k a b e h = ap (same_key k) (sym e) ∙ h
 
@@ -92,7 +89,7 @@ module _ (s : Scripted) (positive : 0 < s.replicas) (events : List Event) (v : V
   written d j x h =
       let k = IsIn-filtered (λ (c : CommittedExec). not (before v c.exec.ver)) Executions d j in
       let a = (listed s positive events).only d k.0 in
-      record { exec = d.exec; content = d.content; committed = a.committed; prepared = a.prepared; upto = not_true (before v d.exec.ver) k.1; entry = h }
+      record { exec = d.exec; content = d.content; committed = a.committed; prepared = a.prepared; upto = not-true (before v d.exec.ver) k.1; entry = h }
 
   -- an entry of the base is the greatest write of its key
   greatest : (e : BaseEntry) → IsIn e (base_at (plan_of s) TheWorld v) → (x : BaseEntry) → IsWrite TheWorld v x → x.key ≡ e.key → wid_before e.wid x.wid ≡ false

@@ -7,8 +7,8 @@ use Rattle.law_safety.proofs.LocksLemmas.{cast_found}
 use Rattle.law_safety.proofs.BaseEntries.{entry_wid}
 use Rattle.law_safety.specs.CommittedList.{IsRisingByExec, IsCommittedAs, IsCommittedList}
 use Rattle.law_steps.proofs.ReplicaFacts.{taking_reach}
-use Rattle.law_steps.proofs.TakenLemmas.{cast_above_none, true_false}
-use Rattle.protocol.proofs.TestLemmas.{and_left}
+use Rattle.law_steps.proofs.TakenLemmas.{cast_above_none}
+use Rattle.protocol.proofs.TestLemmas.{true_false, and_left}
 use Rattle.protocol.proofs.QuorumsLemmas.{quorums_meet}
 use Rattle.protocol.specs.Replica.Votes.{casts, writes_key}
 use Rattle.protocol.specs.Words.{Commit, wid_before, Exec, Version, Wid, Ending, Read, Content, Event, BaseEntry, Prepare, no_version, before, same_version, exec_before}

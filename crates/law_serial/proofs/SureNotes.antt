@@ -1,7 +1,8 @@
 -- What a Note tells: a first value, the last write of a committed execution, or a write of a Puts.
 use Rattle.protocol.specs.Words.{Puts, Exec, Version, Wid, Key, NodeId, Client, Replica, Warden, Envelope, BaseEntry, Body, Content, Write, Get, Note, Prepare, Finalize, Ask, Fence, Voted, Drops, no_version, before, wid_before}
 use Rattle.protocol.specs.Replica.Taken.{is_above, version_of, Handled, takes, after_taking, dropped, base}
-use Rattle.law_steps.proofs.TakenLemmas.{taken_above, true_false, no_base, dropped_taken, takes_above, up_to_none}
+use Rattle.law_steps.proofs.TakenLemmas.{taken_above, no_base, dropped_taken, takes_above}
+use Rattle.protocol.proofs.NamesLemmas.{up_to_none}
 use Rattle.law_steps.proofs.ReplicaFacts.{taking_reach}
 use Rattle.std.proofs.Common.{◌≡◌, ℕ, ℤ, ◌<◌, ◌⊎◌, inl, inr, refl, ap, sym, ◌∙◌, subst, true, false, Bool, cond, List, ◌∷◌, ◌++◌, Option, Some}
 use Rattle.std.specs.Prelude.{map, flat_map}
@@ -18,7 +19,7 @@ use Rattle.protocol.specs.World.Events.{replay_from, to_all, parcel}
 use Rattle.protocol.specs.World.Decided.{WasSent}
 use Rattle.law_serial.specs.SureNotes.{IsLastWrite, IsSure, SureNotes}
 use Rattle.law_serial.specs.SureNotes.IsSure.{First_value, Last_write}
-use Rattle.protocol.proofs.TestLemmas.{and_left}
+use Rattle.protocol.proofs.TestLemmas.{true_false, and_left}
 use Rattle.protocol.proofs.ListsLemmas.{IsIn-cases, IsIn-map, IsIn-flat_map, IsIn-one_when, at_same}
 use Rattle.law_steps.proofs.MailLemmas.{took_reach}
 use Rattle.law_steps.proofs.Reach.{Step, Reach, events_reach}

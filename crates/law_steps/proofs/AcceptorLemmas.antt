@@ -1,3 +1,4 @@
+-- What a replica accepted was sent, and what a Told says of it is so for good.
 use Rattle.std.proofs.Common.{subst, sym, ◌≡◌, ℕ, ◌<◌, ◌≤◌, ◌⊎◌, ◌≢◌, inl, inr, refl, ap, ◌∙◌, true, false, Bool, cond, List, [], ◌∷◌, ◌++◌, Option, Some, arith}
 use Rattle.std.specs.Prelude.{option_map, nat_le, ◌==◌}
 use Rattle.protocol.specs.Words.{Exec, Envelope, Body, Content, Choice, Accept, Vote, Prepare, Finalize, Ask, same_exec}

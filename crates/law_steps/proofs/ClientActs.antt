@@ -1,8 +1,9 @@
-use Rattle.protocol.specs.Words.{Ending, Exec, Write, NodeId, Replica, Warden, Body, Content, Choice, Abandon, ToCommit, Vote, Get, Puts, Prepare, Finalize, Accepted, Decide, Voted}
-use Rattle.protocol.specs.Client.State.{content, values, walk, Rules, ClientState, Phase, CountedVote, Decision}
+-- The small acts of a client, and what each does to its try, its execution and its writes.
 use Rattle.std.proofs.Common.{Some, ℤ, ◌++◌, ◌≡◌, ℕ, ◌<◌, ◌≤◌, ◌+◌, ◌⊎◌, refl, true, false, Bool, List, [], ◌∷◌, Option, None, length}
 use Rattle.std.specs.Prelude.{cond, nat_le, nat_lt, ◌&&◌, ◌==◌}
 use Rattle.std.specs.List.{list_any}
+use Rattle.protocol.specs.Words.{Ending, Exec, Write, NodeId, Replica, Warden, Body, Content, Choice, Abandon, ToCommit, Vote, Get, Puts, Prepare, Finalize, Accepted, Decide, Voted}
+use Rattle.protocol.specs.Client.State.{content, values, walk, Rules, ClientState, Phase, CountedVote, Decision}
 use Rattle.protocol.specs.Lists.{IsIn}
 use Rattle.protocol.specs.Replica.Votes.{is_commit_vote}
 use Rattle.protocol.specs.declared.Fate.{Fate}
@@ -13,8 +14,8 @@ use Rattle.protocol.specs.Client.Counting.{tally_says, count_votes, is_final_vot
 use Rattle.protocol.specs.Client.Deciding.{content_for}
 use Rattle.protocol.specs.Client.State.Phase.{Between, Running, Prepared}
 use Rattle.protocol.specs.declared.Fate.TheVariants.{Live, Aborted}
-use Rattle.law_steps.specs.Executions.{IsEarlier}
 use Rattle.protocol.proofs.TestLemmas.{and_right, le_is, lt_is}
+use Rattle.law_steps.specs.Executions.{IsEarlier}
 
 abbrev pub IsQuiet : Body → Type 0
 IsQuiet (Get x k) = Unit {0}

@@ -4,8 +4,10 @@ use Rattle.std.specs.Prelude.{cond, suc, nat_le, nat_lt, ◌&&◌, ◌||◌, ◌
 use Rattle.std.specs.List.{list_any, list_all}
 use Rattle.std.specs.Ordering.{int_eq}
 use Rattle.std.proofs.lemmas.List.{append-nil, length-append}
-use Rattle.protocol.specs.Words.{Exec, Key, Wid, Ending, NodeId, Client, Replica, Warden, Body, Content, Choice, Abandon, ToCommit, Vote, Note, Puts, Prepare, Accepted, Decide, TooOld, Voted, same_exec, same_version}
 use Rattle.std.specs.Bool.{then_some}
+use Rattle.std.proofs.lemmas.Bool.Decides.{Decides-int_eq}
+use Rattle.std.proofs.lemmas.Bool.{not-true}
+use Rattle.protocol.specs.Words.{Exec, Key, Wid, Ending, NodeId, Client, Replica, Warden, Body, Content, Choice, Abandon, ToCommit, Vote, Note, Puts, Prepare, Accepted, Decide, TooOld, Voted, same_exec, same_version}
 use Rattle.protocol.specs.Lists.{IsIn, one_when}
 use Rattle.protocol.specs.Replica.Votes.{is_commit_vote}
 use Rattle.protocol.specs.declared.Held.{Held}
@@ -25,9 +27,8 @@ use Rattle.protocol.specs.Client.Following.Effect.{Nothing, Sure, Follow}
 use Rattle.protocol.specs.Client.Step.Input.{Goes, Runs, Hurries, Comes}
 use Rattle.protocol.proofs.TestLemmas.{and_left, and_right, eqb_is, le_is, lt_is}
 use Rattle.protocol.proofs.NamesLemmas.{exec_is}
-use Rattle.std.proofs.lemmas.Bool.Decides.{Decides-int_eq}
 use Rattle.law_steps.proofs.WriteStepLemmas.{stops, stops_silent, begins, goes_on, values_append, relabels, puts_writes, puts_alone, other_question, prepares_writes}
-use Rattle.law_steps.proofs.PhaseLemmas.{same_stage, running_stage, unprepared, quiet_puts, not_true, warden_is, quiet_question, quiet_append, between_is, aborted_is, running_under_way, prepared_under_way}
+use Rattle.law_steps.proofs.PhaseLemmas.{same_stage, running_stage, unprepared, quiet_puts, warden_is, quiet_question, quiet_append, between_is, aborted_is, running_under_way, prepared_under_way}
 use Rattle.law_steps.proofs.ClientActs.ClientAct.{Quiet, Advances, Prepares, Counts, Proposes, Accepts, Decides, Gives_up, Learns}
 use Rattle.law_steps.proofs.ClientActs.Reason.{All_commit, One_final, By_quorum}
 use Rattle.law_steps.proofs.ClientActs.TryStep.{Keeps, Next_exec, Next_try}
@@ -159,7 +160,7 @@ module _ (r : Rules) (Got : NodeId → Body → Type 0) where
   counts_vote_chain c k votes accepts x j v e got range = go (same_exec x c.exec && not (list_any (λ b. b.replica == j) votes)) refl
     where
       go : (t : Bool) → (same_exec x c.exec && not (list_any (λ b. b.replica == j) votes)) ≡ t → Reaches c (turn_when t c (on_tally r c k (votes ++ record { replica = j; vote = v } ∷ []) (tally_says r.replicas (votes ++ record { replica = j; vote = v } ∷ []))))
-      go true q = tally_chain c c k _ _ (tally_tells r.replicas _) (one c _ [] (Counts (record { content = k; votes = votes; accepts = accepts; replica = j; vote = v; before = e; got = subst (λ y. Got (Replica j) (Voted y v)) (exec_is _ _ (and_left _ _ q)) got; range = range; fresh = not_true _ (and_right _ _ q); exec = refl; decisions = refl; phase = refl; silent = refl })) (Keeps refl refl refl (λ e i. i) (λ b f. cc) (λ u. inl (rw e tt))) (stops_silent r _ _ (λ z. z)))
+      go true q = tally_chain c c k _ _ (tally_tells r.replicas _) (one c _ [] (Counts (record { content = k; votes = votes; accepts = accepts; replica = j; vote = v; before = e; got = subst (λ y. Got (Replica j) (Voted y v)) (exec_is _ _ (and_left _ _ q)) got; range = range; fresh = not-true _ (and_right _ _ q); exec = refl; decisions = refl; phase = refl; silent = refl })) (Keeps refl refl refl (λ e i. i) (λ b f. cc) (λ u. inl (rw e tt))) (stops_silent r _ _ (λ z. z)))
       go false q = Start
 
   counts_accept_chain : (c : ClientState) (k : Content) (votes : List CountedVote) (d : Choice) (accepts : List ℕ) (x : Exec) (view j : ℕ) → c.phase ≡ Prepared k votes (Some d) accepts → Got (Replica j) (Accepted x view) → (0 < j) × (j ≤ r.replicas) → Reaches c (counts_accept r c k votes d accepts x view j)
@@ -171,7 +172,7 @@ module _ (r : Rules) (Got : NodeId → Body → Type 0) where
       go2 false q s = s
 
       go : (t : Bool) → (same_exec x c.exec && ((view == 0) && not (list_any (λ i. i == j) accepts))) ≡ t → Reaches c (turn_when t c (turn_when (nat_le (quorum r.replicas) (suc (length accepts))) (prepared c k votes (Some d) (accepts ++ j ∷ [])) (decide r (prepared c k votes (Some d) (accepts ++ j ∷ [])) k d)))
-      go true q = go2 (nat_le (quorum r.replicas) (suc (length accepts))) refl (one c _ [] (Accepts (record { content = k; votes = votes; choice = d; accepts = accepts; replica = j; before = e; got = subst (λ y. Got (Replica j) (Accepted c.exec y)) (eqb_is view 0 (and_left _ _ (and_right _ _ q))) (subst (λ y. Got (Replica j) (Accepted y view)) (exec_is _ _ (and_left _ _ q)) got); range = range; fresh = not_true _ (and_right _ _ (and_right _ _ q)); exec = refl; decisions = refl; phase = refl; silent = refl })) (Keeps refl refl refl (λ e i. i) (λ b f. cc) (λ u. inl (rw e tt))) (stops_silent r _ _ (λ z. z)))
+      go true q = go2 (nat_le (quorum r.replicas) (suc (length accepts))) refl (one c _ [] (Accepts (record { content = k; votes = votes; choice = d; accepts = accepts; replica = j; before = e; got = subst (λ y. Got (Replica j) (Accepted c.exec y)) (eqb_is view 0 (and_left _ _ (and_right _ _ q))) (subst (λ y. Got (Replica j) (Accepted y view)) (exec_is _ _ (and_left _ _ q)) got); range = range; fresh = not-true _ (and_right _ _ (and_right _ _ q)); exec = refl; decisions = refl; phase = refl; silent = refl })) (Keeps refl refl refl (λ e i. i) (λ b f. cc) (λ u. inl (rw e tt))) (stops_silent r _ _ (λ z. z)))
       go false q = Start
 
   -- envelopes

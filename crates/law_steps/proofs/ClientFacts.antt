@@ -1,3 +1,4 @@
+-- What a client sent it knows for good: what it prepared, proposed and decided.
 use Rattle.std.proofs.Common.{◌≡◌, ℕ, ◌⊎◌, inl, inr, refl, sym, subst, List, [], ◌∷◌, Option, Some, None}
 use Rattle.protocol.specs.Words.{Exec, NodeId, Body, Content, Choice, Abandon, Get, Puts, Prepare, Finalize, Decide}
 use Rattle.protocol.specs.Lists.{IsIn}

@@ -1,3 +1,4 @@
+-- A Fenced answer names, or stands above, all that its sender voted Commit on at or below the version.
 use Rattle.std.proofs.Common.{◌≡◌, ◌⊎◌, inl, inr, refl, ap, sym, ◌∙◌, subst, true, false, Bool, List, [], ◌∷◌, Option, Some, None}
 use Rattle.std.specs.Prelude.{◌&&◌, not}
 use Rattle.protocol.specs.Words.{Version, Exec, Envelope, Body, BaseEntry, Kept, Commit, Choice, Abandon, ToCommit, Fence, Drops, no_version, before}
@@ -6,13 +7,15 @@ use Rattle.protocol.specs.Replica.Taken.{Handled, takes, is_above, version_of, d
 use Rattle.protocol.specs.Replica.Acceptor.{commits, new_commit, decided}
 use Rattle.protocol.specs.Replica.Votes.{Cast, casts, new_cast}
 use Rattle.protocol.specs.Replica.Says.{committed_upto, voted_upto}
-use Rattle.law_steps.specs.AnsweredOn.{AnsweredOn}
+use Rattle.protocol.specs.World.Decided.{UpTo}
 use Rattle.protocol.proofs.ListsLemmas.{map_in, IsIn-cases, IsIn-right, IsIn-map}
-use Rattle.protocol.proofs.ReplicaGrows.{decided_stays}
+use Rattle.protocol.proofs.ReplicaGrows.{decided_stays, later_left, later_right}
+use Rattle.protocol.proofs.TestLemmas.{true_false}
+use Rattle.protocol.proofs.NamesLemmas.{up_to_trans, before_up_to}
+use Rattle.law_steps.specs.AnsweredOn.{AnsweredOn}
 use Rattle.law_steps.proofs.KnownLemmas.{IsWell, commit_on, commit_finds, some_from, found}
 use Rattle.law_steps.proofs.VotesLemmas.{verdict_commit}
-use Rattle.protocol.specs.World.Decided.{UpTo}
-use Rattle.law_steps.proofs.TakenLemmas.{up_to_trans, before_up_to, true_false, later_left, later_right, IsTaking, takes_above, dropped_taken, no_base, IsIn-filter, IsIn-filtered, in_sorted, of_sorted, cast_is, cast_above_none}
+use Rattle.law_steps.proofs.TakenLemmas.{IsTaking, takes_above, dropped_taken, no_base, IsIn-filter, IsIn-filtered, in_sorted, of_sorted, cast_is, cast_above_none}
 
 -- where a cast of Commit at or below w stands in a Fenced answer
 pub data Named (h g : Handled) (b : List BaseEntry) (cs vs : List Kept) (c : Cast) : Type 0 where

@@ -9,6 +9,7 @@ use Rattle.protocol.specs.Client.State.{ClientState, fresh_client}
 use Rattle.protocol.specs.Warden.State.{Parcel, WardenState, fresh_warden}
 use Rattle.protocol.specs.World.State.{Plan, World, rules, warden_rules, in_range, first_world}
 use Rattle.protocol.specs.World.Events.{at, to_all, parcel}
+use Rattle.protocol.specs.World.Steps.{ByReplica}
 use Rattle.protocol.proofs.ListsLemmas.{IsIn-cases, at_cases, at_same}
 use Rattle.law_steps.proofs.Reach.{Step, Reach, GotAt, HeardAt, From, ByClientAct, ByWardenAct}
 use Rattle.law_steps.proofs.ClientActs.{ClientAct}
@@ -17,7 +18,6 @@ use Rattle.law_steps.proofs.Reach.Step.{Stands, Client_acts, Replica_acts, Warde
 use Rattle.law_steps.proofs.Reach.From.{Begins, Next}
 use Rattle.law_steps.proofs.SaysLemmas.{spoken}
 use Rattle.law_steps.proofs.SendingLemmas.{parcel_body, from_parcels, from_to_all}
-use Rattle.protocol.specs.World.Steps.{ByReplica}
 
 -- a fact of a replica and its list in a step: the list stands, or the replica took an envelope
 pub replica_in_step : (p : Plan) (w w' : World) → Step p w w' → (K : ℕ → Handled → Type 0)

@@ -1,8 +1,10 @@
+-- A content that a replica knows was taken by it, and it knows the content of whatever it voted, accepted or decided Commit.
 use Rattle.std.proofs.Common.{◌≡◌, ℕ, ◌⊎◌, ◌≢◌, inl, inr, refl, ap, sym, ◌∙◌, subst, true, false, Bool, cond, List, [], ◌∷◌, ◌++◌, Option, Some, None}
 use Rattle.std.specs.Prelude.{option_map, nat_le, ◌&&◌, not, find}
 use Rattle.std.specs.Option.{is_none, option_or}
-use Rattle.protocol.specs.Words.{Exec, Envelope, Body, Content, Kept, Choice, Abandon, ToCommit, Prepare, Finalize, Decide, same_exec}
 use Rattle.std.specs.Bool.{then_some}
+use Rattle.std.proofs.lemmas.Bool.{not-true}
+use Rattle.protocol.specs.Words.{Exec, Envelope, Body, Content, Kept, Choice, Abandon, ToCommit, Prepare, Finalize, Decide, same_exec}
 use Rattle.protocol.specs.Lists.{IsIn, one_when}
 use Rattle.protocol.specs.Replica.Taken.{Handled, takes, after_taking, lacks_content, is_above, version_of, dropped}
 use Rattle.protocol.specs.Replica.Acceptor.{promised, Acceptance, acceptances, new_acceptance, decided, choice_for, commits, new_commit, accepted_content, accepted_content_for}
@@ -69,10 +71,6 @@ accepted_taken (m ∷ h) x k e = go (λ f. accepted_taken h x k f) (accepted_con
     go ih (Some c) f e = took_more m h x k (ih (f ∙ e))
     go ih None f e = (m, inl refl, content_step (promised h x) m m.body x k refl e)
 
-option_some : {A B : Type 0} (f : A → B) (o : Option A) (b : B) → option_map f o ≡ Some b → (a : A) × (o ≡ Some a) × (f a ≡ b)
-option_some f None b e = cc
-option_some f (Some a) b e = (a, refl, cc)
-
 -- what a replica knows it took
 pub known_taken : (h : Handled) (x : Exec) (k : Content) → known h x ≡ Some k → Took h x k
 known_taken h x k e = go (find (λ (y : Kept). same_exec x y.exec) (commits h)) refl (cast_on x (casts h)) refl e
@@ -91,12 +89,8 @@ pub well_taking : (h : Handled) (m : Envelope) → IsWell h → IsWell (after_ta
 unfolding after_taking takes
 well_taking h m i = go (is_above (dropped h) (version_of m.body) && not (lacks_content m.body)) refl
   where
-    not_true : (t : Bool) → not t ≡ true → t ≡ false
-    not_true true e = cc
-    not_true false e = refl
-
     go : (t : Bool) → (is_above (dropped h) (version_of m.body) && not (lacks_content m.body)) ≡ t → IsWell (cond t (m ∷ h) h)
-    go true e = (not_true _ (and_right (is_above (dropped h) (version_of m.body)) _ e), i)
+    go true e = (not-true _ (and_right (is_above (dropped h) (version_of m.body)) _ e), i)
     go false e = i
 
 abbrev pub Finds : {A : Type 0} → Option A → Type 0
@@ -106,9 +100,6 @@ Finds (Some a) = Unit {0}
 pub finds_cons : {A : Type 0} (t : Bool) (a : A) (o : Option A) → Finds o → Finds (cond t (Some a) o)
 finds_cons true a o f = tt
 finds_cons false a o f = f
-
-finds_some : {A : Type 0} (o : Option A) (a : A) → o ≡ Some a → Finds o
-finds_some o a e = rw e tt
 
 pub some_from : {A : Type 0} (o : Option A) → Finds o → (a : A) × (o ≡ Some a)
 some_from None f = absurd f

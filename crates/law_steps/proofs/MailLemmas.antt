@@ -1,3 +1,4 @@
+-- The mail only grows, and what a replica took was sent to it.
 use Rattle.std.proofs.Common.{◌≡◌, ℕ, ◌⊎◌, inl, inr, true, false, Bool, cond, ◌∷◌}
 use Rattle.protocol.specs.Words.{Replica, Envelope}
 use Rattle.protocol.specs.Lists.{IsIn}

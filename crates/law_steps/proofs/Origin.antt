@@ -4,6 +4,7 @@ use Rattle.protocol.specs.Words.{Client, Warden, Body}
 use Rattle.protocol.specs.Lists.{IsIn}
 use Rattle.protocol.specs.Warden.State.{Parcel}
 use Rattle.protocol.specs.World.State.{Plan, World}
+use Rattle.protocol.specs.World.Decided.{WasSent}
 use Rattle.protocol.proofs.ListsLemmas.{IsIn-cases}
 use Rattle.law_steps.proofs.SaysLemmas.{spoken}
 use Rattle.law_steps.proofs.Reach.{Step, Reach, ByClientAct, ByWardenAct}
@@ -11,7 +12,6 @@ use Rattle.law_steps.proofs.Reach.Step.{Stands, Client_acts, Replica_acts, Warde
 use Rattle.law_steps.proofs.Reach.From.{Next}
 use Rattle.law_steps.proofs.SendingLemmas.{from_to_all, from_parcels, parcel_body}
 use Rattle.law_steps.proofs.ReplicaFacts.{RFact, facts_reach}
-use Rattle.protocol.specs.World.Decided.{WasSent}
 use Rattle.law_steps.proofs.WardenFacts.{WFact, ward_facts_reach}
 
 -- a body in the mail after a step is old, or was sent in it

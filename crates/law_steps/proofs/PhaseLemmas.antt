@@ -1,6 +1,5 @@
 -- What a phase and a list of quiet bodies are.
 use Rattle.std.proofs.Common.{◌≡◌, ℕ, refl, true, false, Bool, List, [], ◌∷◌, ◌++◌, Option, Some, None}
-use Rattle.std.specs.Prelude.{not}
 use Rattle.protocol.specs.Words.{Exec, Key, NodeId, Client, Replica, Warden, Body, Content, Choice}
 use Rattle.protocol.specs.Lists.{one_when}
 use Rattle.protocol.specs.declared.Fate.{Fate}
@@ -37,10 +36,6 @@ unprepared (Prepared k v o a) h = absurd h
 pub quiet_puts : (t : Bool) (b : Body) → IsQuiet b → AllQuiet (one_when t b)
 quiet_puts true b q = (q, tt)
 quiet_puts false b q = tt
-
-pub not_true : (t : Bool) → not t ≡ true → t ≡ false
-not_true true e = cc
-not_true false e = refl
 
 pub warden_is : (from : NodeId) → is_warden from ≡ true → (j : ℕ) × (from ≡ Warden j)
 warden_is (Client j) e = cc

@@ -1,3 +1,4 @@
+-- The worlds that events lead to are among those that small steps lead to.
 use Rattle.std.proofs.Common.{◌≡◌, ℕ, refl, ap, sym, ◌∙◌, subst, true, false, Bool, cond, List, [], ◌∷◌, ◌++◌, length, append_assoc}
 use Rattle.std.specs.Prelude.{flat_map, ◌==◌}
 use Rattle.std.proofs.Math.Path.{fun_ext}
@@ -10,20 +11,20 @@ use Rattle.protocol.specs.Client.Step.{Input}
 use Rattle.protocol.specs.Client.Step.Input.{Goes, Runs, Hurries, Comes}
 use Rattle.protocol.specs.World.State.{Plan, World, in_range, rules, warden_rules, first_world}
 use Rattle.protocol.specs.World.Events.{at, to_all, parcel, after, replay_from}
-use Rattle.protocol.proofs.ListsLemmas.{IsIn-left, at_same, at_cases}
-use Rattle.law_steps.proofs.ClientActs.{ClientAct, TryStep, WriteStep, Chain}
-use Rattle.law_steps.proofs.ClientChain.{client_chain, CameTo}
-use Rattle.law_steps.proofs.ClientActs.ClientAct.{Quiet, Advances, Prepares, Counts, Proposes, Accepts, Decides, Gives_up, Learns}
-use Rattle.law_steps.proofs.ClientActs.Chain.{Start, Then}
 use Rattle.protocol.specs.World.Steps.{Happens, Stayed, ByReplica, Came, Heard}
-use Rattle.protocol.proofs.EventSteps.{after_happens}
-use Rattle.law_steps.proofs.WardenActs.{WardenAct, WardenChain, warden_acts, HeardBy}
-use Rattle.law_steps.proofs.WardenActs.WardenAct.{Rests, Asks, Counts_told, Counts_accepted, Begins_truncation, Counts_fenced, Ends_truncation}
-use Rattle.law_steps.proofs.WardenActs.WardenChain.{Start as Wards_start, Then as Wards_then}
 use Rattle.protocol.specs.Warden.State.{WardenRules, WardenState, Parcel}
 use Rattle.protocol.specs.Warden.Step.{WardenInput}
 use Rattle.protocol.specs.Warden.Step.WardenInput.{Recovers, Truncates, Hears}
 use Rattle.protocol.specs.World.Steps.Happens.{Stays, Client_moves, Replica_moves, Warden_moves}
+use Rattle.protocol.proofs.ListsLemmas.{IsIn-left, at_same, at_cases}
+use Rattle.protocol.proofs.EventSteps.{after_happens}
+use Rattle.law_steps.proofs.ClientActs.{ClientAct, TryStep, WriteStep, Chain}
+use Rattle.law_steps.proofs.ClientChain.{client_chain, CameTo}
+use Rattle.law_steps.proofs.ClientActs.ClientAct.{Quiet, Advances, Prepares, Counts, Proposes, Accepts, Decides, Gives_up, Learns}
+use Rattle.law_steps.proofs.ClientActs.Chain.{Start, Then}
+use Rattle.law_steps.proofs.WardenActs.{WardenAct, WardenChain, warden_acts, HeardBy}
+use Rattle.law_steps.proofs.WardenActs.WardenAct.{Rests, Asks, Counts_told, Counts_accepted, Begins_truncation, Counts_fenced, Ends_truncation}
+use Rattle.law_steps.proofs.WardenActs.WardenChain.{Start as Wards_start, Then as Wards_then}
 
 -- an envelope that was sent to client c
 abbrev pub GotAt : World → ℕ → NodeId → Body → Type 0

@@ -1,4 +1,5 @@
-use Rattle.std.proofs.Common.{◌≡◌, ℕ, ◌<◌, inl, inr, refl, ap, ◌∙◌, subst, true, false, Bool, cond, List, ◌∷◌, Option, Some, None}
+-- What a replica said it knows for good: its votes, its acceptances, what it told and what it answered to a Fence.
+use Rattle.std.proofs.Common.{◌≡◌, ℕ, ◌<◌, inl, inr, refl, ◌∙◌, subst, true, false, Bool, cond, List, ◌∷◌, Option, Some, None}
 use Rattle.std.specs.Prelude.{map, option_map, nat_le}
 use Rattle.protocol.specs.Words.{Exec, Envelope, Body, Content, Choice, ToCommit, Accept, Vote, Commit, Get, Note, Prepare, Finalize, Accepted, Ask, Told, Fence, Fenced, TooOld, Voted}
 use Rattle.protocol.specs.Lists.{IsIn}
@@ -10,13 +11,13 @@ use Rattle.protocol.specs.Replica.Says.{answer, refusal}
 use Rattle.protocol.specs.World.State.{Plan, World}
 use Rattle.protocol.proofs.TestLemmas.{lt_is}
 use Rattle.protocol.proofs.ListsLemmas.{IsIn-right, IsIn-map, IsIn-one_when}
+use Rattle.protocol.proofs.ReplicaGrows.{vote_stays}
 use Rattle.law_steps.proofs.AcceptorLemmas.{IsTold, told_stays, told_new, accept_on_backed}
 use Rattle.law_steps.proofs.KnownLemmas.{Took, took_more, known_taken, IsWell, well_taking, Finds, commit_finds, known_commit, known_cast, known_accepted, accepted_content_finds}
 use Rattle.law_steps.proofs.SaysLemmas.{Spoken, spoken, voted_answer, IsNote}
 use Rattle.law_steps.proofs.SaysLemmas.Spoken.{Answers, Refuses, Notes}
 use Rattle.law_steps.proofs.Reach.{Reach}
 use Rattle.law_steps.proofs.Induction.{ReplicasSaid, replicas_said_reach, on_replicas}
-use Rattle.protocol.proofs.ReplicaGrows.{cast_stays}
 use Rattle.law_steps.proofs.TakenLemmas.{IsTaking, taking_more}
 use Rattle.law_steps.proofs.FencedFacts.{FencedFact, fenced_more, fence_answer}
 
@@ -49,15 +50,8 @@ RFact r h (TooOld v w) = Unit {0}
 RFact r h (Fenced w b c d) = FencedFact h w b c d
 RFact r h _ = ⊥
 
-vote_cons : (h : Handled) (m : Envelope) (x : Exec) (v : Vote) → vote h x ≡ Some v → vote (m ∷ h) x ≡ Some v
-vote_cons h m x v e = let k = option_cast (cast_on x (casts h)) v e in rw (cast_stays h m x k.0 k.1) (ap Some k.2)
-  where
-    option_cast : (o : Option Cast) (v : Vote) → option_map (λ (y : Cast). y.vote) o ≡ Some v → (y : Cast) × (o ≡ Some y) × (y.vote ≡ v)
-    option_cast None v e = cc
-    option_cast (Some y) v e = (y, refl, cc)
-
 pub fact_cons : (r : ℕ) (h : Handled) (m : Envelope) (b : Body) → RFact r h b → RFact r (m ∷ h) b
-fact_cons r h m (Voted x v) f = vote_cons h m x v f
+fact_cons r h m (Voted x v) f = vote_stays h m x v f
 fact_cons r h m (Accepted x v) f = (f.0, IsIn-right f.0 (new_acceptance h m.body) (acceptances h) f.1, f.2, f.3)
 fact_cons r h m (Told x v vt ac de co) f = record { told = told_stays h m x v vt ac de f.told; took = λ k e. took_more m h x k (f.took k e); knows_vote = f.knows_vote; knows_accept = f.knows_accept; knows_decision = f.knows_decision }
 fact_cons r h m (Note v k wid value sure lost) f = tt

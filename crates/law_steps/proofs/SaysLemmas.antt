@@ -1,3 +1,4 @@
+-- Whatever a replica says is an answer, a refusal or a Note, and comes from it.
 use Rattle.std.proofs.Common.{◌≡◌, ℕ, inl, inr, refl, ap, sym, subst, true, false, Bool, List, ◌∷◌, ◌++◌, Some}
 use Rattle.std.specs.Prelude.{cond, map, option_map}
 use Rattle.protocol.specs.Words.{Exec, NodeId, Replica, Envelope, Body, Vote, Content, Get, Note, Prepare, Finalize, Ask, Fence, Voted}
@@ -41,12 +42,6 @@ spoken firsts r h m e i = go (takes h m.body) refl i
       | inr k ↦ let l = in_due firsts h (m ∷ h) r e k in (l.0, Notes l.1)
     ]
     go false q i = let l = in_letter r m.from (refusal h m.body) e i in (l.0, Refuses l.1)
-
--- a Vote that is sent is the vote that is cast
-pub voted_refused : (h : Handled) (b : Body) (x : Exec) (v : Vote) → IsIn (Voted x v) (refusal h b) → ⊥
-voted_refused h (Get y k) x v (inl e) = cc
-voted_refused h (Get y k) x v (inr e) = e
-voted_refused h _ x v i = i
 
 vote_found : (x : Exec) (old : List Cast) (z : Exec) (c : Content) (w v : Vote) → Voted x v ≡ Voted z w → option_map (λ (y : Cast). y.vote) (cast_on x (record { exec = z; content = c; vote = w } ∷ old)) ≡ Some v
 vote_found x old z c w v e = let f : z ≡ x = cc in let g : w ≡ v = cc in rw (f, same_exec_refl) (ap Some g)

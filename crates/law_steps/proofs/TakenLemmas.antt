@@ -1,60 +1,16 @@
-use Rattle.std.proofs.Common.{◌≡◌, ◌⊎◌, inl, inr, refl, ap, sym, ◌∙◌, subst, true, false, Bool, cond, List, [], ◌∷◌, Option, Some, None, arith}
+-- What a replica took is above what it had dropped, and its dropped version and base are those of a Drop that it took.
+use Rattle.std.proofs.Common.{◌≡◌, ◌⊎◌, inl, inr, refl, ap, sym, ◌∙◌, subst, true, false, Bool, cond, List, [], ◌∷◌, Option, Some, None}
 use Rattle.std.specs.Prelude.{filter}
-use Rattle.std.proofs.lemmas.Bool.Decides.{nat_tests}
 use Rattle.protocol.specs.Words.{Version, Envelope, Body, BaseEntry, Kept, Prepare, Drops, no_version, before, exec_before}
 use Rattle.protocol.specs.Lists.{IsIn}
 use Rattle.protocol.specs.Replica.Taken.{Handled, takes, after_taking, is_above, version_of, later, dropped, dropped_by, base, base_after}
 use Rattle.protocol.specs.Replica.Votes.{Cast, casts, new_cast, verdict}
 use Rattle.protocol.specs.Replica.Says.{sorted_kept, put_kept}
 use Rattle.protocol.specs.World.Decided.{UpTo}
-use Rattle.protocol.proofs.TestLemmas.{and_left}
+use Rattle.protocol.proofs.TestLemmas.{true_false, and_left}
 use Rattle.protocol.proofs.ListsLemmas.{IsIn-cases, IsIn-one_when}
-use Rattle.protocol.proofs.NamesLemmas.{none_before}
-
-pub up_to_trans : (a b c : Version) → UpTo a b → UpTo b c → UpTo a c
-unfolding before
-up_to_trans a b c p q = grind (arith, nat_tests)
-
-pub before_up_to : (a b : Version) → before a b ≡ true → UpTo a b
-unfolding before
-before_up_to a b p = grind (arith, nat_tests)
-
-pub before_then : (a b c : Version) → before a b ≡ true → UpTo b c → before a c ≡ true
-unfolding before
-before_then a b c p q = grind (arith, nat_tests)
-
-pub then_before : (a b c : Version) → UpTo a b → before b c ≡ true → before a c ≡ true
-unfolding before
-then_before a b c p q = grind (arith, nat_tests)
-
-pub up_to_none : (a b : Version) → before a b ≡ true → before no_version b ≡ true
-unfolding before
-up_to_none a b p = grind (arith, nat_tests)
-
-pub up_to_itself : (a : Version) → UpTo a a
-unfolding before
-up_to_itself a = grind (arith, nat_tests)
-
-pub before_self : (a : Version) → before a a ≡ false
-unfolding before
-before_self a = grind (arith, nat_tests)
-
-pub true_false : true ≡ false → ⊥
-true_false e = cc
-
-pub later_left : (a b : Version) → UpTo a (later a b)
-later_left a b = go (before a b) refl
-  where
-    go : (t : Bool) → before a b ≡ t → UpTo a (cond t b a)
-    go true p = before_up_to a b p
-    go false p = up_to_itself a
-
-pub later_right : (a b : Version) → UpTo b (later a b)
-later_right a b = go (before a b) refl
-  where
-    go : (t : Bool) → before a b ≡ t → UpTo b (cond t b a)
-    go true p = up_to_itself b
-    go false p = p
+use Rattle.protocol.proofs.NamesLemmas.{none_before, up_to_none, up_to_trans}
+use Rattle.protocol.proofs.ReplicaGrows.{later_left}
 
 -- a replica took each envelope of its list as its rule says
 abbrev pub IsTaking : Handled → Type 0

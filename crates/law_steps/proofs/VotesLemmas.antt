@@ -1,20 +1,16 @@
-use Rattle.std.proofs.Common.{◌≡◌, ◌⊎◌, ◌≢◌, inl, inr, refl, ap, sym, ◌∙◌, subst, true, false, Bool, cond, List, [], ◌∷◌, ◌++◌, Option, Some, None, arith}
+-- What a verdict tells of the executions in conflict with it.
+use Rattle.std.proofs.Common.{◌≡◌, ◌⊎◌, ◌≢◌, inl, inr, refl, ap, sym, ◌∙◌, subst, true, false, Bool, cond, List, [], ◌∷◌, ◌++◌, Option, Some, None}
 use Rattle.std.specs.Prelude.{option_map, ◌&&◌, ◌||◌, not}
 use Rattle.std.specs.List.{list_any}
 use Rattle.std.specs.Option.{is_none}
-use Rattle.std.proofs.lemmas.Bool.Decides.{nat_tests}
 use Rattle.protocol.specs.Words.{BaseEntry, Exec, Version, Envelope, Body, Content, Kept, Vote, Commit, Tentative, Final, Choice, Abandon, ToCommit, Prepare, before, same_exec}
 use Rattle.protocol.specs.Lists.{IsIn, one_when}
 use Rattle.protocol.specs.Replica.Taken.{Handled, dropped, fence, base}
 use Rattle.protocol.specs.Replica.Acceptor.{decided, commits}
 use Rattle.protocol.specs.Replica.Votes.{casts, cast_on, new_cast, may_vote, verdict, vote, Cast, conflicts, conflicts_with_base, misses, is_commit_vote}
-use Rattle.protocol.proofs.TestLemmas.{and_right}
-use Rattle.protocol.proofs.NamesLemmas.{same_exec_tells}
+use Rattle.protocol.proofs.TestLemmas.{true_false, and_right}
+use Rattle.protocol.proofs.NamesLemmas.{same_exec_tells, before_self}
 use Rattle.law_steps.proofs.KnownLemmas.{IsWell, commit_finds, some_from, found, commit_on}
-
--- a new vote is the verdict on a Prepare
-pub NewVote : Handled → Envelope → Exec → Vote → Type 0
-NewVote h m x v = (k : Content) × (m.body ≡ Prepare x k) × (verdict h (casts h) x k ≡ v)
 
 pub new_vote : (h : Handled) (m : Envelope) (x : Exec) (v : Vote) → vote (m ∷ h) x ≡ Some v → (vote h x ≡ Some v) ⊎ ((k : Content) × (m.body ≡ Prepare x k) × (verdict h (casts h) x k ≡ v))
 new_vote h m x v e = go m.body refl e
@@ -98,9 +94,6 @@ committed_holds h x k c l a e g f =
     and_is (before (dropped h) l.exec.ver) (conflicts x.ver k l.exec.ver l.content) (subst (λ (y : Exec). before (dropped h) y.ver ≡ true) (sym e) a)
     (subst (λ (y : Exec). conflicts x.ver k y.ver l.content ≡ true) (sym e) (subst (λ (y : Content). conflicts x.ver k c.exec.ver y ≡ true) (sym g) f))
 
-true_false : true ≡ false → ⊥
-true_false e = cc
-
 -- after a verdict of Commit, what was voted Commit on in conflict with it was decided Abandon there, or stands at or below the dropped version
 pub earlier_settled : (h : Handled) (x : Exec) (k : Content) (c : Cast) → IsWell h
     → ((l : Kept) → IsIn l (commits h) → l.exec ≡ c.exec → l.content ≡ c.content)
@@ -137,11 +130,7 @@ conflicts_both_ways t x c d = or_swap (misses t c x d.writes) (misses x d t c.wr
     or_swap false true = refl
     or_swap false false = refl
 
-before_itself : (t : Version) → before t t ≡ false
-unfolding before
-before_itself t = grind (arith, nat_tests)
-
 -- nothing is in conflict with one of its own version
 pub no_conflict_alike : (t : Version) (c d : Content) → conflicts t c t d ≡ false
 unfolding conflicts
-no_conflict_alike t c d = rw before_itself refl
+no_conflict_alike t c d = rw before_self refl

@@ -1,10 +1,12 @@
+-- The small acts of a warden, and each of its steps as a chain of them.
 use Rattle.std.proofs.Common.{◌≡◌, ℕ, ◌<◌, ◌≤◌, ◌⊎◌, inl, inr, refl, subst, true, false, Bool, List, [], ◌∷◌, ◌++◌, Option, Some, None, length}
 use Rattle.std.specs.Prelude.{cond, suc, nat_le, nat_lt, ◌&&◌, ◌||◌, ◌==◌, not}
 use Rattle.std.specs.Option.{is_none, is_some}
 use Rattle.std.specs.List.{list_any, list_all}
 use Rattle.std.proofs.lemmas.List.{append-nil}
-use Rattle.protocol.specs.Words.{Exec, NodeId, Client, Replica, Warden, Body, Finalize, Accepted, Decide, Ask, Told, Fence, Fenced, Drops, Version, same_version}
 use Rattle.std.specs.Bool.{then_some}
+use Rattle.std.proofs.lemmas.Bool.{not-true}
+use Rattle.protocol.specs.Words.{Exec, NodeId, Client, Replica, Warden, Body, Finalize, Accepted, Decide, Ask, Told, Fence, Fenced, Drops, Version, same_version}
 use Rattle.protocol.specs.Quorums.{quorum}
 use Rattle.protocol.specs.Client.Counting.{sender}
 use Rattle.protocol.specs.Warden.State.{WardenRules, WardenState, WardenTurn, Round, ToldAnswer, Proposal, Parcel, FencedAnswer, Truncation, decision_on, still}
@@ -115,10 +117,6 @@ module _ (r : WardenRules) (Got : NodeId → Body → Type 0) where
   abbrev Acts : WardenState → WardenTurn → Type 0
   Acts s t = WardenAct r Got s t.state t.sent
 
-  not_true : (t : Bool) → not t ≡ true → t ≡ false
-  not_true true e = cc
-  not_true false e = refl
-
   none_is : {A : Type 0} (o : Option A) → is_none o ≡ true → o ≡ None
   none_is None e = refl
   none_is (Some a) e = cc
@@ -134,7 +132,7 @@ module _ (r : WardenRules) (Got : NodeId → Body → Type 0) where
 
       go : (u : Bool) → (is_none a.proposal && not (list_any (λ (u : ToldAnswer). u.replica == t.replica) a.tolds)) ≡ u → Acts s (cond (not u) (still s) (cond (nat_le (quorum r.replicas) (suc (length a.tolds))) (proposes s x v (with_told a t)) (still (round_put s x v (with_told a t)))))
       go false q = Rests (record { state = refl; silent = refl })
-      go true q = go2 (nat_le (quorum r.replicas) (suc (length a.tolds))) refl (none_is a.proposal (and_left _ _ q)) (not_true (list_any (λ (u : ToldAnswer). u.replica == t.replica) a.tolds) (and_right (is_none a.proposal) _ q))
+      go true q = go2 (nat_le (quorum r.replicas) (suc (length a.tolds))) refl (none_is a.proposal (and_left _ _ q)) (not-true (list_any (λ (u : ToldAnswer). u.replica == t.replica) a.tolds) (and_right (is_none a.proposal) _ q))
 
   count_acts : (s : WardenState) (x : Exec) (v j : ℕ) (a : Round) → round_of x v s.rounds ≡ Some a → Got (Replica j) (Accepted x v) → (0 < j) × (j ≤ r.replicas) → (o : Option Proposal) → a.proposal ≡ o → Acts s (count_accept r s x v j a o)
   unfolding count_accept decides
@@ -201,7 +199,7 @@ module _ (r : WardenRules) (Got : NodeId → Body → Type 0) where
   counted_test : (t : Truncation) (w : Version) (k : ℕ) → is_counted r t w k ≡ true → (w ≡ t.w) × (list_any (λ (b : FencedAnswer). b.replica == k) t.answers ≡ false)
   counted_test t w k e = (
     version_is w t.w (and_right (not t.dropped) _ (and_left _ _ e)),
-    not_true _ (and_right (nat_lt (length t.answers) (quorum r.replicas)) _ (and_right (not t.dropped && same_version w t.w) _ e)),
+    not-true _ (and_right (nat_lt (length t.answers) (quorum r.replicas)) _ (and_right (not t.dropped && same_version w t.w) _ e)),
   )
 
   fence_chain : (s : WardenState) (u : WardenTurn) (w : Version) (a : FencedAnswer) (ts : List Truncation) → u.state.truncations ≡ ts → Chained s u → Got (Replica a.replica) (Fenced w a.base a.committed a.voted) → (0 < a.replica) × (a.replica ≤ r.replicas) → Chained s (take_fenced r u w a ts)

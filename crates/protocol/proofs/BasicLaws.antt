@@ -1,41 +1,30 @@
 -- The basic laws.
-use Rattle.std.proofs.Common.{refl, ◌≡◌, ℕ, ◌<◌, ◌≤◌, ◌⊎◌, inl, inr, ap, sym, ◌∙◌, Bool, true, false, cond, List, [], ◌∷◌, ◌++◌, arith, append_assoc}
+use Rattle.std.proofs.Common.{refl, ◌≡◌, ℕ, ◌<◌, ◌≤◌, ◌⊎◌, inl, inr, ap, sym, ◌∙◌, Bool, true, false, cond, List, [], ◌∷◌, ◌++◌, arith, append_assoc, Option, Some, None, length, ◌+◌}
 use Rattle.std.proofs.lemmas.List.{append-nil}
 use Rattle.std.proofs.lemmas.Bool.Decides.{nat_tests}
-use Rattle.protocol.specs.Words.{Version, Replica, before, Envelope}
+use Rattle.std.specs.Prelude.{nat_le}
+use Rattle.protocol.specs.Words.{Replica, Envelope}
 use Rattle.protocol.specs.Lists.{IsIn}
-use Rattle.protocol.specs.Replica.Taken.{Handled, takes, after_taking, dropped, fence}
+use Rattle.protocol.specs.Replica.Taken.{Handled, takes, after_taking, dropped, fence, dropped_by, fenced_by}
 use Rattle.protocol.specs.Replica.Acceptor.{acceptances}
 use Rattle.protocol.specs.World.Events.{after, enabled, made, Move}
 use Rattle.protocol.specs.World.State.{Plan, World, first_world, mail_limit}
-use Rattle.protocol.specs.World.Decided.{UpTo}
 use Rattle.protocol.specs.World.Steps.{Happens}
 use Rattle.protocol.specs.World.Steps.Happens.{Stays, Client_moves, Replica_moves, Warden_moves}
-use Rattle.protocol.specs.Laws.{QuorumsMeet, HasGrown, ReplicasGrow, MailGrows, TakenWasSent, EventsStep}
+use Rattle.protocol.specs.Laws.{QuorumsMeet, HasGrown, ReplicasGrow, MailGrows, TakenWasSent, EventsStep, EventOutcome, EventsMove, ReplaysJoin}
+use Rattle.protocol.specs.Laws.EventOutcome.{Not_enabled, Refused, Moved}
 use Rattle.protocol.proofs.ListsLemmas.{IsIn-left, IsIn-right, at_cases}
-use Rattle.protocol.proofs.NamesLemmas.{before_false}
-use Rattle.protocol.proofs.ReplicaGrows.{decided_stays, promised_grows, dropped_grows, fence_grows, vote_stays}
+use Rattle.protocol.proofs.NamesLemmas.{up_to_itself, up_to_trans}
+use Rattle.protocol.proofs.ReplicaGrows.{decided_stays, promised_grows, later_left, vote_stays}
 use Rattle.protocol.proofs.QuorumsLemmas as quorums
 use Rattle.protocol.proofs.EventSteps.{after_happens, always}
-use Rattle.std.proofs.Common.{Option, Some, None, length, ◌+◌}
-use Rattle.std.specs.Prelude.{nat_le}
 use Rattle.protocol.proofs.TestLemmas.{le_is}
-use Rattle.protocol.specs.Laws.{EventOutcome, EventsMove, ReplaysJoin}
-use Rattle.protocol.specs.Laws.EventOutcome.{Not_enabled, Refused, Moved}
 
 pub quorums_meet : QuorumsMeet
 quorums_meet n p q a b =
     let m = quorums.quorums_meet n (λ r. ((0 < r) × (r ≤ n)) × (p r ≡ true)) (λ r. q r ≡ true)
     (record { members = a.members; distinct = a.distinct; ranged = a.ranged; each = λ r i. (a.ranged r i, a.each r i); many = a.many }) b in
     (m.0, m.1.0.0, m.1.0.1, m.1.1, m.2)
-
-up_to_itself : (a : Version) → UpTo a a
-unfolding before
-up_to_itself a = grind (arith, nat_tests)
-
-up_to_trans : (a b c : Version) → UpTo a b → UpTo b c → UpTo a c
-unfolding before
-up_to_trans a b c p q = grind (arith, nat_tests)
 
 grown_not : (h : Handled) → HasGrown h h
 grown_not h = record { votes = λ x v e. e; decisions = λ x d e. e; promises = λ x. omega arith; accepts = λ a i. i; fences = up_to_itself (fence h); drops = up_to_itself (dropped h) }
@@ -46,8 +35,8 @@ grown_by h m = record {
   decisions = decided_stays h m;
   promises = promised_grows h m;
   accepts = λ a i. IsIn-right a _ (acceptances h) i;
-  fences = before_false (fence h) (fence (m ∷ h)) (fence_grows h m);
-  drops = before_false (dropped h) (dropped (m ∷ h)) (dropped_grows h m);
+  fences = later_left (fence h) (fenced_by m.body);
+  drops = later_left (dropped h) (dropped_by m.body);
 }
 
 grown_then : (h g k : Handled) → HasGrown h g → HasGrown g k → HasGrown h k

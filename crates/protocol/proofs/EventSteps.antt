@@ -2,7 +2,6 @@
 use Rattle.std.proofs.Common.{◌≡◌, ℕ, inl, inr, refl, ap, sym, ◌∙◌, subst, true, false, Bool, List, [], ◌∷◌, ◌++◌, Option, Some, None, length}
 use Rattle.std.specs.Prelude.{cond, option_map, zero, suc, nat_le, ◌+◌}
 use Rattle.std.proofs.lemmas.List.{append-nil}
-use Rattle.protocol.proofs.TestLemmas.{and_left, eqb_is}
 use Rattle.std.specs.List.{slice_get}
 use Rattle.protocol.specs.Words.{NodeId, Client, Replica, Warden, Envelope, same_node, node_of, Pick, Deliver, Go, Hurry, Recover, Truncate, Stop, Event, Picked, Ran}
 use Rattle.protocol.specs.Lists.{IsIn}
@@ -16,6 +15,7 @@ use Rattle.protocol.specs.World.State.{Plan, World, mail_limit, exists, is_live,
 use Rattle.protocol.specs.World.Events.{Move, client_moves, warden_moves, replica_moves, client_input, warden_input, receives, pick_moves, delivers, move_of, enabled, made, after, replay_from, mark}
 use Rattle.protocol.specs.World.Steps.{Came, Heard, Happens}
 use Rattle.protocol.specs.World.Steps.Happens.{Stays, Client_moves, Replica_moves, Warden_moves}
+use Rattle.protocol.proofs.TestLemmas.{and_left, eqb_is}
 
 -- an element at a place is in the list
 pub IsIn-get : {A : Type 0} (xs : List A) (i : ℕ) (a : A) → slice_get xs i ≡ Some a → IsIn a xs

@@ -1,9 +1,9 @@
 -- What is in a list that is joined, mapped or filtered, and a function with another value at one place.
 use Rattle.std.specs.List.{list_all}
-use Rattle.std.proofs.Common.{ap, ◌∙◌, subst, ◌≡◌, ℕ, ◌⊎◌, ◌≢◌, inl, inr, refl, true, false, Bool, cond, List, [], ◌∷◌, ◌++◌, arith}
-use Rattle.std.specs.Prelude.{flat_map, map, ◌==◌}
-use Rattle.std.proofs.lemmas.Bool.Decides.{nat_tests}
-use Rattle.protocol.specs.Lists.{IsIn, one_when}
+use Rattle.std.proofs.Common.{ap, ◌∙◌, subst, ◌≡◌, ◌<◌, ◌≤◌, ℕ, ◌⊎◌, ◌≢◌, inl, inr, refl, true, false, Bool, cond, List, [], ◌∷◌, ◌++◌, arith}
+use Rattle.std.specs.Prelude.{zero, suc, flat_map, map, ◌==◌}
+use Rattle.std.proofs.lemmas.Bool.Decides.{nat_tests, eqb_tells}
+use Rattle.protocol.specs.Lists.{IsIn, one_when, upto}
 use Rattle.protocol.specs.World.Events.{at}
 use Rattle.protocol.proofs.TestLemmas.{and_left, and_right, eqb_is}
 
@@ -73,3 +73,11 @@ pub map_in : {A B : Type 0} (f : A → B) (xs : List A) (a : A) → IsIn a xs �
 map_in f [] a i = i
 map_in f (x ∷ xs) a (inl e) = inl (ap f e)
 map_in f (x ∷ xs) a (inr i) = inr (map_in f xs a i)
+
+-- each of the numbers 1 to n
+pub upto_in : (n r : ℕ) → 0 < r → r ≤ n → IsIn r (upto n)
+upto_in zero r a b = absurd (omega arith)
+upto_in (suc n) r a b = elim (eqb_tells r (suc n)) [
+  | inl e ↦ IsIn-right r (upto n) (suc n ∷ []) (inl e.1)
+  | inr e ↦ (let f : r ≢ suc n = e.1 in IsIn-left r (upto n) (suc n ∷ []) (upto_in n r a (omega arith)))
+]

@@ -3,9 +3,10 @@ use Rattle.std.proofs.Common.{◌≡◌, ◌≤◌, ◌⊎◌, inl, inr, ap, sym
 use Rattle.std.specs.Prelude.{◌==◌, ◌&&◌}
 use Rattle.std.proofs.lemmas.Bool.Decides.{nat_tests, Decides-int_eq}
 use Rattle.std.proofs.lemmas.Int.{ints}
-use Rattle.protocol.specs.Words.{Key, Wid, no_version, before, IsBefore, IsUpTo, same_exec, same_version, same_key, key_before, same_wid, wid_before, Version, Exec}
 pub use Rattle.morty_base.proofs.Orders.{same_exec_tells, same_version_tells}
-use Rattle.protocol.proofs.TestLemmas.{and_left, and_right, eqb_is}
+use Rattle.protocol.specs.Words.{Key, Wid, no_version, before, IsBefore, IsUpTo, same_exec, same_version, same_key, key_before, same_wid, wid_before, Version, Exec}
+use Rattle.protocol.specs.World.Decided.{UpTo}
+use Rattle.protocol.proofs.TestLemmas.{true_false, and_left, and_right, eqb_is}
 
 pub before_tells : (a b : Version) → ((before a b ≡ true) × IsBefore a b) ⊎ ((before a b ≡ false) × IsUpTo b a)
 unfolding before
@@ -17,15 +18,9 @@ same_exec_refl x = grind (arith, nat_tests)
 
 pub exec_is : (x y : Exec) → same_exec x y ≡ true → x ≡ y
 exec_is x y e = elim (same_exec_tells x y) [ inl p ↦ p.1 | inr p ↦ absurd (true_false (sym e ∙ p.0)) ]
-  where
-    true_false : true ≡ false → ⊥
-    true_false e = cc
 
 pub version_is : (x y : Version) → same_version x y ≡ true → x ≡ y
 version_is x y e = elim (same_version_tells x y) [ inl p ↦ p.1 | inr p ↦ absurd (true_false (sym e ∙ p.0)) ]
-  where
-    true_false : true ≡ false → ⊥
-    true_false e = cc
 
 pub is_before : (a b : Version) → before a b ≡ true → IsBefore a b
 unfolding before
@@ -91,3 +86,31 @@ wid_is a b e =
     let t = eqb_is a.ver.ts b.ver.ts (and_left (a.ver.ts == b.ver.ts) _ u) in let c = eqb_is a.ver.client b.ver.client (and_right (a.ver.ts == b.ver.ts) _ u) in
     let d = eqb_is a.eid b.eid (and_right (a.ver.ts == b.ver.ts && a.ver.client == b.ver.client) _ v) in let s = eqb_is a.seq b.seq (and_right ((a.ver.ts == b.ver.ts && a.ver.client == b.ver.client) && a.eid == b.eid) _ e) in
     λ i. record { ver = record { ts = t i; client = c i }; eid = d i; seq = s i }
+
+pub up_to_trans : (a b c : Version) → UpTo a b → UpTo b c → UpTo a c
+unfolding before
+up_to_trans a b c p q = grind (arith, nat_tests)
+
+pub before_up_to : (a b : Version) → before a b ≡ true → UpTo a b
+unfolding before
+before_up_to a b p = grind (arith, nat_tests)
+
+pub before_then : (a b c : Version) → before a b ≡ true → UpTo b c → before a c ≡ true
+unfolding before
+before_then a b c p q = grind (arith, nat_tests)
+
+pub then_before : (a b c : Version) → UpTo a b → before b c ≡ true → before a c ≡ true
+unfolding before
+then_before a b c p q = grind (arith, nat_tests)
+
+pub up_to_none : (a b : Version) → before a b ≡ true → before no_version b ≡ true
+unfolding before
+up_to_none a b p = grind (arith, nat_tests)
+
+pub up_to_itself : (a : Version) → UpTo a a
+unfolding before
+up_to_itself a = grind (arith, nat_tests)
+
+pub before_self : (a : Version) → before a a ≡ false
+unfolding before
+before_self a = grind (arith, nat_tests)

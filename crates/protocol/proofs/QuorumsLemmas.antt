@@ -1,13 +1,10 @@
 -- Two quorums share a replica, since the lists of both have more elements than there are replicas.
-use Rattle.std.proofs.Common.{ap, refl, sym, subst, [], ◌∷◌, ◌<◌, ◌≤◌}
-use Rattle.std.specs.Prelude.{map, suc}
-use Rattle.protocol.proofs.ListsLemmas.{IsIn-map}
-use Rattle.std.proofs.Common.{◌≡◌, ℕ, ◌<◌, ◌≤◌, ◌+◌, ◌/◌, ◌⊎◌, ◌≢◌, inl, inr, refl, ap, sym, ◌∙◌, subst, true, false, Bool, cond, List, [], ◌∷◌, ◌++◌, length, arith, length-append}
-use Rattle.std.specs.Prelude.{zero, suc, ◌==◌, not, filter}
+use Rattle.std.proofs.Common.{ap, refl, sym, subst, [], ◌∷◌, ◌<◌, ◌≤◌, ◌≡◌, ℕ, ◌+◌, ◌/◌, ◌⊎◌, ◌≢◌, inl, inr, ◌∙◌, true, false, Bool, cond, List, ◌++◌, length, arith, length-append}
+use Rattle.std.specs.Prelude.{map, suc, zero, ◌==◌, not, filter}
 use Rattle.std.proofs.lemmas.Bool.Decides.{eqb_tells}
 use Rattle.protocol.specs.Lists.{IsIn}
 use Rattle.protocol.specs.Quorums.{quorum, HasNoRepeats, Quorum}
-use Rattle.protocol.proofs.ListsLemmas.{IsIn-cases}
+use Rattle.protocol.proofs.ListsLemmas.{IsIn-map, IsIn-cases}
 
 pub decide_in : (r : ℕ) (xs : List ℕ) → IsIn r xs ⊎ (IsIn r xs → ⊥)
 decide_in r [] = inr (λ h. h)

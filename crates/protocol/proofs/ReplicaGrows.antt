@@ -1,16 +1,15 @@
 -- What a replica said or knew stays when it takes one more envelope.
-use Rattle.std.proofs.Common.{◌≡◌, ◌≤◌, ◌⊎◌, ◌≢◌, inl, inr, refl, true, false, Bool, cond, List, ◌∷◌, ◌++◌, Some, arith}
+use Rattle.std.proofs.Common.{◌≡◌, ◌≤◌, ◌⊎◌, ◌≢◌, inl, inr, refl, true, false, Bool, cond, List, ◌∷◌, ◌++◌, Some, arith, ap, ◌∙◌, None, Option}
 use Rattle.std.specs.Option.{is_none}
-use Rattle.protocol.specs.Words.{Version, Exec, Envelope, Body, Choice, Prepare, before, IsBefore, IsUpTo, same_exec, Vote}
-use Rattle.protocol.specs.Lists.{one_when}
-use Rattle.protocol.specs.Replica.Taken.{Handled, later, dropped, dropped_by, fence, fenced_by}
-use Rattle.protocol.specs.Replica.Acceptor.{promised, decided}
-use Rattle.protocol.specs.Replica.Votes.{Cast, casts, new_cast, cast_on, may_vote, verdict}
-use Rattle.protocol.proofs.TestLemmas.{and_left, and_right, some_not_none}
-use Rattle.protocol.proofs.NamesLemmas.{before_tells, same_exec_tells}
-use Rattle.std.proofs.Common.{ap, ◌∙◌, None, Option}
 use Rattle.std.specs.Prelude.{option_map}
-use Rattle.protocol.specs.Replica.Votes.{vote}
+use Rattle.protocol.specs.Words.{Version, Exec, Envelope, Body, Choice, Prepare, before, same_exec, Vote}
+use Rattle.protocol.specs.Lists.{one_when}
+use Rattle.protocol.specs.Replica.Taken.{Handled, later}
+use Rattle.protocol.specs.Replica.Acceptor.{promised, decided}
+use Rattle.protocol.specs.Replica.Votes.{Cast, casts, new_cast, cast_on, may_vote, verdict, vote}
+use Rattle.protocol.specs.World.Decided.{UpTo}
+use Rattle.protocol.proofs.TestLemmas.{and_left, and_right, some_not_none}
+use Rattle.protocol.proofs.NamesLemmas.{same_exec_tells, up_to_itself, before_up_to}
 
 pub decided_stays : (h : Handled) (m : Envelope) (x : Exec) (d : Choice) → decided h x ≡ Some d → decided (m ∷ h) x ≡ Some d
 decided_stays h m x d e = rw e
@@ -18,18 +17,20 @@ decided_stays h m x d e = rw e
 pub promised_grows : (h : Handled) (m : Envelope) (x : Exec) → promised h x ≤ promised (m ∷ h) x
 promised_grows h m x = omega arith
 
-pub later_left : (a b : Version) → IsUpTo a (later a b)
-later_left a b = go (before a b) (before_tells a b)
+-- the later of two versions is at or above each
+pub later_left : (a b : Version) → UpTo a (later a b)
+later_left a b = go (before a b) refl
   where
-    go : (t : Bool) → ((t ≡ true) × IsBefore a b) ⊎ ((t ≡ false) × IsUpTo b a) → IsUpTo a (cond t b a)
-    go true p = grind arith
-    go false p = grind arith
+    go : (t : Bool) → before a b ≡ t → UpTo a (cond t b a)
+    go true p = before_up_to a b p
+    go false p = up_to_itself a
 
-pub dropped_grows : (h : Handled) (m : Envelope) → IsUpTo (dropped h) (dropped (m ∷ h))
-dropped_grows h m = later_left (dropped h) (dropped_by m.body)
-
-pub fence_grows : (h : Handled) (m : Envelope) → IsUpTo (fence h) (fence (m ∷ h))
-fence_grows h m = later_left (fence h) (fenced_by m.body)
+pub later_right : (a b : Version) → UpTo b (later a b)
+later_right a b = go (before a b) refl
+  where
+    go : (t : Bool) → before a b ≡ t → UpTo b (cond t b a)
+    go true p = up_to_itself b
+    go false p = p
 
 -- who may vote has not voted
 may_vote_none : (h : Handled) (old : List Cast) (z : Exec) → may_vote h old z ≡ true → is_none (cast_on z old) ≡ true
