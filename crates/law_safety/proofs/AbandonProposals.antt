@@ -12,7 +12,8 @@ use Rattle.law_safety.specs.Invariants.MayAbandon.{Client_proposed, One_shut}
 use Rattle.law_safety.proofs.InvariantHolds.{safe_reach}
 
 -- a proposal of view 0 is the client's
-first_view : (p : Plan) (w : World) → Reach p w → (x : Exec) (d : Choice) (o : Option Content) → WasSent w (Finalize x 0 d o) → WasSentBy w (Client x.ver.client) (Finalize x 0 d o)
+first_view : (p : Plan) (w : World) → Reach p w → (x : Exec) (d : Choice) (o : Option Content) → WasSent w (Finalize x 0 d o) →
+    WasSentBy w (Client x.ver.client) (Finalize x 0 d o)
 first_view p w q x d o t = go (final_from p w q t.envelope x 0 d o t.there t.body)
   where
     go : FinalFrom p w t.envelope x 0 d o → WasSentBy w (Client x.ver.client) (Finalize x 0 d o)

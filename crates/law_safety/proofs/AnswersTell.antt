@@ -25,14 +25,16 @@ unfolding answer
 cast_answer firsts h (Prepare x k) c i = map_in (λ (y : Cast). Voted y.exec y.vote) (new_cast h (casts h) (Prepare x k)) c i
 cast_answer firsts h _ c i = absurd i
 
-acceptance_answer : (firsts : List First2) (h : Handled) (b : Body) (a : Acceptance) → IsIn a (new_acceptance h b) → IsIn (Accepted a.exec a.view) (answer firsts h b)
+acceptance_answer : (firsts : List First2) (h : Handled) (b : Body) (a : Acceptance) → IsIn a (new_acceptance h b) →
+    IsIn (Accepted a.exec a.view) (answer firsts h b)
 unfolding answer
 acceptance_answer firsts h (Finalize x v d o) a i = let g = IsIn-one_when _ _ a i in
     subst (λ (t : Bool). IsIn (Accepted a.exec a.view) (one_when t (Accepted x v))) (sym g.0) (inl (ap (λ (y : Acceptance). Accepted y.exec y.view) g.1))
 acceptance_answer firsts h _ a i = absurd i
 
 -- an answer is sent
-answer_said : (firsts : List First2) (r : ℕ) (h : Handled) (m : Envelope) (b : Body) → takes h m.body ≡ true → IsIn b (answer firsts h m.body) → IsIn (envelope_from r m.from b) (says firsts r h m)
+answer_said : (firsts : List First2) (r : ℕ) (h : Handled) (m : Envelope) (b : Body) → takes h m.body ≡ true → IsIn b (answer firsts h m.body) →
+    IsIn (envelope_from r m.from b) (says firsts r h m)
 unfolding says
 answer_said firsts r h m b e i = subst (λ (t : Bool). IsIn (envelope_from r m.from b) (cond t (map (envelope_from r m.from) (answer firsts h m.body) ++ due firsts r h (m ∷ h)) (map (envelope_from r m.from) (refusal h m.body)))) (sym e)
     (IsIn-left (envelope_from r m.from b) (map (envelope_from r m.from) (answer firsts h m.body)) _ (map_in (envelope_from r m.from) (answer firsts h m.body) b i))
@@ -49,7 +51,8 @@ spoke_grows : (p : Plan) (w w' : World) → Step p w w' → (r : ℕ) (h : Handl
 spoke_grows p w w' s r h t = record { votes = λ c i. sent_by_grows p w w' s r _ (t.votes c i); accepts = λ a i. sent_by_grows p w w' s r _ (t.accepts a i) }
 
 -- a list with one more envelope, where the answer to it was sent
-spoke_taking : (w' : World) (firsts : List First2) (r : ℕ) (h : Handled) (m : Envelope) → ((e : Envelope) → IsIn e (says firsts r h m) → IsIn e w'.mail) → Spoke w' r h → Spoke w' r (after_taking h m)
+spoke_taking : (w' : World) (firsts : List First2) (r : ℕ) (h : Handled) (m : Envelope) → ((e : Envelope) → IsIn e (says firsts r h m) → IsIn e w'.mail) →
+    Spoke w' r h → Spoke w' r (after_taking h m)
 unfolding after_taking
 spoke_taking w' firsts r h m sent t = go (takes h m.body) refl
   where

@@ -29,15 +29,18 @@ pub record Written (w : World) (v : Version) (d : BaseEntry) : Type 0 where
 
 -- what the bases of the Drops hold: each committed write at or below the dropped version, or a greater one, and no other
 pub record Bases (w : World) : Type 0 where
-  pub holds : (v : Version) (bs : List BaseEntry) → WasSent w (Drops v bs) → (y : Exec) (l : Content) (o : Option Content) → WasSent w (Decide y ToCommit o) → WasSent w (Prepare y l) → UpTo y.ver v → (e : BaseEntry) → IsIn e (entries_of y 1 l.writes) → HasEntry bs e
+  pub holds : (v : Version) (bs : List BaseEntry) → WasSent w (Drops v bs) → (y : Exec) (l : Content) (o : Option Content) → WasSent w (Decide y ToCommit o) →
+      WasSent w (Prepare y l) → UpTo y.ver v → (e : BaseEntry) → IsIn e (entries_of y 1 l.writes) → HasEntry bs e
   pub written : (v : Version) (bs : List BaseEntry) → WasSent w (Drops v bs) → (d : BaseEntry) → IsIn d bs → Written w v d
 
-pub entry_write : (y : Exec) (i : ℕ) (ws : List Write) (d : BaseEntry) → IsIn d (entries_of y i ws) → (d.wid.ver ≡ y.ver) × ((w : Write) × IsIn w ws × (d.key ≡ w.key))
+pub entry_write : (y : Exec) (i : ℕ) (ws : List Write) (d : BaseEntry) → IsIn d (entries_of y i ws) →
+    (d.wid.ver ≡ y.ver) × ((w : Write) × IsIn w ws × (d.key ≡ w.key))
 entry_write y i [] d j = absurd j
 entry_write y i (w ∷ ws) d (inl e) = (ap (λ (z : BaseEntry). z.wid.ver) e, (w, inl refl, ap (λ (z : BaseEntry). z.key) e))
 entry_write y i (w ∷ ws) d (inr j) = let k = entry_write y (suc i) ws d j in (k.0, (k.1.0, inr k.1.1, k.1.2))
 
-pub write_entry : (y : Exec) (i : ℕ) (ws : List Write) (w : Write) → IsIn w ws → (d : BaseEntry) × IsIn d (entries_of y i ws) × (d.key ≡ w.key) × (d.wid.ver ≡ y.ver)
+pub write_entry : (y : Exec) (i : ℕ) (ws : List Write) (w : Write) → IsIn w ws →
+    (d : BaseEntry) × IsIn d (entries_of y i ws) × (d.key ≡ w.key) × (d.wid.ver ≡ y.ver)
 write_entry y i [] w j = absurd j
 write_entry y i (v ∷ ws) w (inl e) = (record { key = v.key; wid = record { ver = y.ver; eid = y.eid; seq = i }; value = v.value }, inl refl, ap (λ (z : Write). z.key) (sym e), refl)
 write_entry y i (v ∷ ws) w (inr j) = let k = write_entry y (suc i) ws w j in (k.0, inr k.1, k.2, k.3)
@@ -64,7 +67,8 @@ only_key k d e = key_is k d.key (or_false (same_key k d.key) e)
     or_false false e = e
 
 -- who is in conflict with a committed execution at or below a dropped version, and stands above it, is in conflict with the base
-pub base_conflict : (x : Exec) (k : Content) (y : Exec) (l : Content) (v : Version) (bs : List BaseEntry) → UpTo y.ver v → before v x.ver ≡ true → conflicts x.ver k y.ver l ≡ true
+pub base_conflict : (x : Exec) (k : Content) (y : Exec) (l : Content) (v : Version) (bs : List BaseEntry) → UpTo y.ver v → before v x.ver ≡ true →
+    conflicts x.ver k y.ver l ≡ true
     → ((e : BaseEntry) → IsIn e (entries_of y 1 l.writes) → HasEntry bs e) → ((d : BaseEntry) → IsIn d bs → UpTo d.wid.ver v) → list_any (conflicts_with_base x.ver k) bs ≡ true
 unfolding conflicts conflicts_with_base
 base_conflict x k y l v bs up above c holds low = go (misses x.ver k y.ver l.writes) refl c
@@ -91,7 +95,8 @@ base_conflict x k y l v bs up above c holds low = go (misses x.ver k y.ver l.wri
         up_of e = before_up_to x.ver y.ver e
 
 -- a conflict with an entry is one with the execution that wrote it
-pub entry_conflict : (x : Exec) (k : Content) (y : Exec) (l : Content) (d : BaseEntry) → conflicts_with_base x.ver k d ≡ true → IsIn d (entries_of y 1 l.writes) → conflicts x.ver k y.ver l ≡ true
+pub entry_conflict : (x : Exec) (k : Content) (y : Exec) (l : Content) (d : BaseEntry) → conflicts_with_base x.ver k d ≡ true →
+    IsIn d (entries_of y 1 l.writes) → conflicts x.ver k y.ver l ≡ true
 unfolding conflicts conflicts_with_base
 entry_conflict x k y l d c i =
     let e = entry_write y 1 l.writes d i in
@@ -104,11 +109,13 @@ entry_conflict x k y l d c i =
     (any_in (λ (w : Write). same_key r.0.key w.key) l.writes e.1.0 e.1.1 (subst (λ (z : Key). same_key r.0.key z ≡ true) same (key_itself r.0.key))))))
 
 -- a list whose envelopes are in the mail: the Drop of its dropped version was sent
-pub dropped_sent : (w : World) (h : Handled) → ((m : Envelope) → IsIn m h → IsIn m w.mail) → (v : Version) → before no_version v ≡ true → UpTo v (dropped h) → WasSent w (Drops (dropped h) (base h))
+pub dropped_sent : (w : World) (h : Handled) → ((m : Envelope) → IsIn m h → IsIn m w.mail) → (v : Version) → before no_version v ≡ true → UpTo v (dropped h) →
+    WasSent w (Drops (dropped h) (base h))
 dropped_sent w h mail v a u = let d = dropped_taken h (before_then no_version v (dropped h) a u) in record { envelope = d.0; there = mail d.0 d.1; body = d.2 }
 
 -- at such a list, who is in conflict with a committed execution that is dropped is in conflict with the base
-pub dropped_conflict : (w : World) → Bases w → (h : Handled) → ((m : Envelope) → IsIn m h → IsIn m w.mail) → (x : Exec) (k : Content) → before (dropped h) x.ver ≡ true → (y : Exec) (l : Content) (o : Option Content) → WasSent w (Decide y ToCommit o) → WasSent w (Prepare y l)
+pub dropped_conflict : (w : World) → Bases w → (h : Handled) → ((m : Envelope) → IsIn m h → IsIn m w.mail) → (x : Exec) (k : Content) →
+    before (dropped h) x.ver ≡ true → (y : Exec) (l : Content) (o : Option Content) → WasSent w (Decide y ToCommit o) → WasSent w (Prepare y l)
     → before no_version y.ver ≡ true → UpTo y.ver (dropped h) → conflicts x.ver k y.ver l ≡ true → list_any (conflicts_with_base x.ver k) (base h) ≡ true
 dropped_conflict w t h mail x k above y l o d p a u c =
     let s = dropped_sent w h mail y.ver a u in

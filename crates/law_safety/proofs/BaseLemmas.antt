@@ -21,7 +21,8 @@ put_new : (b : BaseEntry) (cs : List BaseEntry) → HasEntry (put_entry b cs) b
 put_new b [] = entry_self (b ∷ []) b (inl refl)
 put_new b (c ∷ cs) = go (put_new b cs) (same_key b.key c.key) refl (wid_before c.wid b.wid) refl (key_before b.key c.key)
   where
-    go : HasEntry (put_entry b cs) b → (t : Bool) → same_key b.key c.key ≡ t → (u : Bool) → wid_before c.wid b.wid ≡ u → (k : Bool) → HasEntry (cond t (cond u (b ∷ cs) (c ∷ cs)) (cond k (b ∷ c ∷ cs) (c ∷ put_entry b cs))) b
+    go : HasEntry (put_entry b cs) b → (t : Bool) → same_key b.key c.key ≡ t → (u : Bool) → wid_before c.wid b.wid ≡ u → (k : Bool) →
+        HasEntry (cond t (cond u (b ∷ cs) (c ∷ cs)) (cond k (b ∷ c ∷ cs) (c ∷ put_entry b cs))) b
     go ih true e true f k = entry_self (b ∷ cs) b (inl refl)
     go ih true e false f k = (c, inl refl, sym (key_is b.key c.key e), f)
     go ih false e u f true = entry_self (b ∷ c ∷ cs) b (inl refl)
@@ -31,7 +32,8 @@ put_keeps : (b : BaseEntry) (cs : List BaseEntry) (e : BaseEntry) → HasEntry c
 put_keeps b [] e h = absurd h.1
 put_keeps b (c ∷ cs) e h = go (λ g. put_keeps b cs e g) (same_key b.key c.key) refl (wid_before c.wid b.wid) refl (key_before b.key c.key) h.1
   where
-    go : (HasEntry cs e → HasEntry (put_entry b cs) e) → (t : Bool) → same_key b.key c.key ≡ t → (u : Bool) → wid_before c.wid b.wid ≡ u → (k : Bool) → (h.0 ≡ c) ⊎ IsIn h.0 cs → HasEntry (cond t (cond u (b ∷ cs) (c ∷ cs)) (cond k (b ∷ c ∷ cs) (c ∷ put_entry b cs))) e
+    go : (HasEntry cs e → HasEntry (put_entry b cs) e) → (t : Bool) → same_key b.key c.key ≡ t → (u : Bool) → wid_before c.wid b.wid ≡ u → (k : Bool) →
+        (h.0 ≡ c) ⊎ IsIn h.0 cs → HasEntry (cond t (cond u (b ∷ cs) (c ∷ cs)) (cond k (b ∷ c ∷ cs) (c ∷ put_entry b cs))) e
     go ih true q true f k (inl z) = (b, inl refl, key_is b.key c.key q ∙ ap (λ (y : BaseEntry). y.key) (sym z) ∙ h.2, wid_trans b.wid c.wid e.wid (wid_less c.wid b.wid f) (subst (λ (y : BaseEntry). wid_before y.wid e.wid ≡ false) z h.3))
     go ih true q true f k (inr i) = (h.0, inr i, h.2, h.3)
     go ih true q false f k i = (h.0, i, h.2, h.3)
@@ -52,7 +54,8 @@ pub put_of : (b : BaseEntry) (cs : List BaseEntry) (d : BaseEntry) → IsIn d (p
 put_of b [] d i = i
 put_of b (c ∷ cs) d i = go (put_of b cs d) (same_key b.key c.key) (wid_before c.wid b.wid) (key_before b.key c.key) i
   where
-    go : (IsIn d (put_entry b cs) → (d ≡ b) ⊎ IsIn d cs) → (t u k : Bool) → IsIn d (cond t (cond u (b ∷ cs) (c ∷ cs)) (cond k (b ∷ c ∷ cs) (c ∷ put_entry b cs))) → (d ≡ b) ⊎ IsIn d (c ∷ cs)
+    go : (IsIn d (put_entry b cs) → (d ≡ b) ⊎ IsIn d cs) → (t u k : Bool) →
+        IsIn d (cond t (cond u (b ∷ cs) (c ∷ cs)) (cond k (b ∷ c ∷ cs) (c ∷ put_entry b cs))) → (d ≡ b) ⊎ IsIn d (c ∷ cs)
     go ih true true k (inl z) = inl z
     go ih true true k (inr i) = inr (inr i)
     go ih true false k i = inr i
@@ -69,7 +72,8 @@ put_rising : (b : BaseEntry) (cs : List BaseEntry) → IsRising cs → IsRising 
 put_rising b [] r = (λ e i. absurd i, tt)
 put_rising b (c ∷ cs) r = go (put_rising b cs r.1) (same_key b.key c.key) refl (wid_before c.wid b.wid) (key_before b.key c.key) refl
   where
-    go : IsRising (put_entry b cs) → (t : Bool) → same_key b.key c.key ≡ t → (u k : Bool) → key_before b.key c.key ≡ k → IsRising (cond t (cond u (b ∷ cs) (c ∷ cs)) (cond k (b ∷ c ∷ cs) (c ∷ put_entry b cs)))
+    go : IsRising (put_entry b cs) → (t : Bool) → same_key b.key c.key ≡ t → (u k : Bool) → key_before b.key c.key ≡ k →
+        IsRising (cond t (cond u (b ∷ cs) (c ∷ cs)) (cond k (b ∷ c ∷ cs) (c ∷ put_entry b cs)))
     go ih true e true k f = (λ d i. subst (λ (y : Key). key_before y d.key ≡ true) (sym (key_is b.key c.key e)) (r.0 d i), r.1)
     go ih true e false k f = r
     go ih false e u true f = (λ d i. elim i [ inl z ↦ subst (λ (y : BaseEntry). key_before b.key y.key ≡ true) (sym z) f | inr j ↦ key_trans b.key c.key d.key f (r.0 d j) ], r)

@@ -62,7 +62,8 @@ pub sent_later : (p : Plan) (o w : World) → From p o w → (b : Body) → WasS
 sent_later p o w f b t = on_worlds p o (λ v. WasSent v b) t (λ u v g st k. sent_grows p u v st b k) w f
 
 -- the base of a Drop stays the base, and nothing at or below its version is committed later
-pub drop_kept : (p : Plan) (pos : 0 < p.replicas) (w w' : World) (q : Reach p w) (f : From p w w') (q' : Reach p w') (v : Version) (bs : List BaseEntry) → WasSent w (Drops v bs) →
+pub drop_kept : (p : Plan) (pos : 0 < p.replicas) (w w' : World) (q : Reach p w) (f : From p w w') (q' : Reach p w') (v : Version) (bs : List BaseEntry) →
+    WasSent w (Drops v bs) →
     IsBase w v bs × IsBase w' v bs × ((x : Exec) → UpTo x.ver v → Committed w' x → Committed w x)
 drop_kept p pos w w' q f q' v bs t = (
   drop_base p pos w q v bs t,

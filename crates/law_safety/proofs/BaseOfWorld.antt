@@ -28,7 +28,8 @@ module _ (p : Plan) (pos : 0 < p.replicas) (w : World) (q : Reach p w) where
       let c = IsIn-map kept_of k.0 (committed_executions p w) k.1 in
       go c.0 (listed_only p pos w q c.0 c.1) (before v c.0.exec.ver) refl (subst (λ (y : Kept). IsIn d (cond (before v y.exec.ver) [] (entries_of y.exec 1 y.content.writes))) c.2 k.2)
     where
-      go : (c : CommittedExec) → IsCommittedAs w c → (z : Bool) → before v c.exec.ver ≡ z → IsIn d (cond z [] (entries_of c.exec 1 c.content.writes)) → IsWrite w v d
+      go : (c : CommittedExec) → IsCommittedAs w c → (z : Bool) → before v c.exec.ver ≡ z → IsIn d (cond z [] (entries_of c.exec 1 c.content.writes)) →
+          IsWrite w v d
       go c a true e j = absurd j
       go c a false e j = record { exec = c.exec; content = c.content; committed = a.committed; prepared = a.prepared; upto = e; entry = j }
 

@@ -31,7 +31,8 @@ decision_told : (ts : List ToldAnswer) (d : Choice) → told_decision ts ≡ Som
 decision_told [] d e = cc
 decision_told (t ∷ ts) d e = go (decision_told ts d) t.decided refl e
   where
-    go : (told_decision ts ≡ Some d → (t : ToldAnswer) × IsIn t ts × (t.decided ≡ Some d)) → (o : Option Choice) → t.decided ≡ o → option_or o (told_decision ts) ≡ Some d → (u : ToldAnswer) × IsIn u (t ∷ ts) × (u.decided ≡ Some d)
+    go : (told_decision ts ≡ Some d → (t : ToldAnswer) × IsIn t ts × (t.decided ≡ Some d)) → (o : Option Choice) → t.decided ≡ o →
+        option_or o (told_decision ts) ≡ Some d → (u : ToldAnswer) × IsIn u (t ∷ ts) × (u.decided ≡ Some d)
     go ih (Some c) f e = (t, inl refl, f ∙ e)
     go ih None f e = let k = ih e in (k.0, inr k.1, k.2)
 
@@ -39,7 +40,8 @@ accept_told : (ts : List ToldAnswer) (b : Accept) → told_accept ts ≡ Some b 
 accept_told [] b e = cc
 accept_told (t ∷ ts) b e = go (accept_told ts b) t.accepted refl (told_accept ts) refl e
   where
-    go : (told_accept ts ≡ Some b → (t : ToldAnswer) × IsIn t ts × (t.accepted ≡ Some b)) → (o : Option Accept) → t.accepted ≡ o → (q : Option Accept) → told_accept ts ≡ q → higher o q ≡ Some b → (u : ToldAnswer) × IsIn u (t ∷ ts) × (u.accepted ≡ Some b)
+    go : (told_accept ts ≡ Some b → (t : ToldAnswer) × IsIn t ts × (t.accepted ≡ Some b)) → (o : Option Accept) → t.accepted ≡ o → (q : Option Accept) →
+        told_accept ts ≡ q → higher o q ≡ Some b → (u : ToldAnswer) × IsIn u (t ∷ ts) × (u.accepted ≡ Some b)
     go ih None f q g e = let k = ih (g ∙ e) in (k.0, inr k.1, k.2)
     go ih (Some a) f None g e = (t, inl refl, f ∙ e)
     go ih (Some a) f (Some c) g e = pick (nat_lt a.view c.view) e
@@ -56,7 +58,8 @@ top_told : (ts : List ToldAnswer) (t : ToldAnswer) (a : Accept) → IsIn t ts �
 top_told [] t a i e = absurd i
 top_told (u ∷ ts) t a i e = go (λ j. top_told ts t a j e) u.accepted refl (told_accept ts) refl i
   where
-    go : (IsIn t ts → IsTop (told_accept ts) a) → (o : Option Accept) → u.accepted ≡ o → (q : Option Accept) → told_accept ts ≡ q → (t ≡ u) ⊎ IsIn t ts → IsTop (higher o q) a
+    go : (IsIn t ts → IsTop (told_accept ts) a) → (o : Option Accept) → u.accepted ≡ o → (q : Option Accept) → told_accept ts ≡ q → (t ≡ u) ⊎ IsIn t ts →
+        IsTop (higher o q) a
     go ih None f q g (inl z) = let k : None ≡ Some a = sym f ∙ (ap (λ (y : ToldAnswer). y.accepted) (sym z) ∙ e) in cc
     go ih None f q g (inr i) = rw (← g) (ih i)
     go ih (Some c) f None g (inl z) = let k : Some c ≡ Some a = sym f ∙ (ap (λ (y : ToldAnswer). y.accepted) (sym z) ∙ e) in let k2 : c ≡ a = cc in (c, refl, rw k2 (omega arith))
@@ -96,7 +99,8 @@ some_told : (ts : List ToldAnswer) → list_all told_commit ts ≡ false → (t 
 some_told [] e = cc
 some_told (u ∷ ts) e = go (some_told ts) (told_commit u) refl e
   where
-    go : (list_all told_commit ts ≡ false → (t : ToldAnswer) × IsIn t ts × (told_commit t ≡ false)) → (z : Bool) → told_commit u ≡ z → (z && list_all told_commit ts) ≡ false → (t : ToldAnswer) × IsIn t (u ∷ ts) × (told_commit t ≡ false)
+    go : (list_all told_commit ts ≡ false → (t : ToldAnswer) × IsIn t ts × (told_commit t ≡ false)) → (z : Bool) → told_commit u ≡ z →
+        (z && list_all told_commit ts) ≡ false → (t : ToldAnswer) × IsIn t (u ∷ ts) × (told_commit t ≡ false)
     go ih true f e = let k = ih e in (k.0, inr k.1, k.2)
     go ih false f e = (u, inl refl, f)
 
@@ -138,7 +142,8 @@ module _ (p : Plan) (w : World) (q : Reach p w) (s : Safe p.replicas w) (x : Exe
   has_content : chosen ts ≡ ToCommit → Finds (told_content ts)
   has_content e = go (told_decision ts) refl (told_accept ts) refl (list_all told_commit ts) refl e
     where
-      go : (d : Option Choice) → told_decision ts ≡ d → (a : Option Accept) → told_accept ts ≡ a → (b : Bool) → list_all told_commit ts ≡ b → fixed_choice d a b ≡ ToCommit → Finds (told_content ts)
+      go : (d : Option Choice) → told_decision ts ≡ d → (a : Option Accept) → told_accept ts ≡ a → (b : Bool) → list_all told_commit ts ≡ b →
+          fixed_choice d a b ≡ ToCommit → Finds (told_content ts)
       go (Some d) f a g b h e = let t = decision_told ts d f in content_told ts t.0 t.1 ((facts t.0 t.1).1.knows_decision (t.2 ∙ ap Some e))
       go None f (Some a) g b h e = let t = accept_told ts a g in content_told ts t.0 t.1 ((facts t.0 t.1).1.knows_accept a t.2 e)
       go None f None g true h e = let t = first_told in content_told ts t.0 t.1 ((facts t.0 t.1).1.knows_vote (commit_is t.0.vote (all_told ts t.0 h t.1)))
@@ -224,7 +229,8 @@ module _ (p : Plan) (w : World) (q : Reach p w) (s : Safe p.replicas w) (x : Exe
       from_lock (Accepted_abandon v0 a) = let k = one_of _ a in let z = accepted_sent p w q x v0 Abandon k.0 k.1 in s.proposals.abandon x v0 z.0 z.1
       from_lock (All_shut a) = let m = quorums_meet p.replicas (Shut w x) (λ r. (0 < r) × (r ≤ p.replicas)) a (record { members = a.members; distinct = a.distinct; ranged = a.ranged; each = a.ranged; many = a.many }) in inr (m.0, m.2.0, m.2.1, m.1)
 
-      go : (d : Option Choice) → told_decision ts ≡ d → (a : Option Accept) → told_accept ts ≡ a → (b : Bool) → list_all told_commit ts ≡ b → fixed_choice d a b ≡ Abandon → ((u : Option Content) × WasSent w (Finalize x 0 Abandon u)) ⊎ ((r : ℕ) × (0 < r) × (r ≤ p.replicas) × Shut w x r)
+      go : (d : Option Choice) → told_decision ts ≡ d → (a : Option Accept) → told_accept ts ≡ a → (b : Bool) → list_all told_commit ts ≡ b →
+          fixed_choice d a b ≡ Abandon → ((u : Option Content) × WasSent w (Finalize x 0 Abandon u)) ⊎ ((r : ℕ) × (0 < r) × (r ≤ p.replicas) × Shut w x r)
       go (Some d) f a g b h e = let t = decision_told ts d f in let k = decided_sent p w q x d t.0.replica ((facts t.0 t.1).1.told.decided d t.2) in from_lock (s.abandoned x k.0 (subst (λ z. WasSent w (Decide x z k.0)) e k.1))
       go None f (Some a) g b h e = let t = accept_told ts a g in let k = (facts t.0 t.1).1.told.backed a t.2 in let z = accepted_sent p w q x a.view a.choice t.0.replica (k.0, k.1, k.2, k.3, k.4) in s.proposals.abandon x a.view z.0 (subst (λ y. WasSent w (Finalize x a.view y z.0)) e z.1)
       go None f None g true h e = cc
@@ -234,7 +240,8 @@ module _ (p : Plan) (w : World) (q : Reach p w) (s : Safe p.replicas w) (x : Exe
   pub chosen_commit : chosen ts ≡ ToCommit → Quorum p.replicas (VotedCommit w x)
   chosen_commit e = go (told_decision ts) refl (told_accept ts) refl (list_all told_commit ts) refl e
     where
-      go : (d : Option Choice) → told_decision ts ≡ d → (a : Option Accept) → told_accept ts ≡ a → (b : Bool) → list_all told_commit ts ≡ b → fixed_choice d a b ≡ ToCommit → Quorum p.replicas (VotedCommit w x)
+      go : (d : Option Choice) → told_decision ts ≡ d → (a : Option Accept) → told_accept ts ≡ a → (b : Bool) → list_all told_commit ts ≡ b →
+          fixed_choice d a b ≡ ToCommit → Quorum p.replicas (VotedCommit w x)
       go (Some d) f a g b h e = let t = decision_told ts d f in let k = decided_sent p w q x d t.0.replica ((facts t.0 t.1).1.told.decided d t.2) in (s.committed x k.0 (subst (λ z. WasSent w (Decide x z k.0)) e k.1)).1
       go None f (Some a) g b h e = let t = accept_told ts a g in let k = (facts t.0 t.1).1.told.backed a t.2 in let z = accepted_sent p w q x a.view a.choice t.0.replica (k.0, k.1, k.2, k.3, k.4) in s.proposals.commit x a.view z.0 (subst (λ y. WasSent w (Finalize x a.view y z.0)) e z.1)
       go None f None g true h e = quorum_map p.replicas _ _ (λ r t. subst (VotedCommit w x) t.2 ((facts t.0 t.1).1.told.vote ∙ commit_is t.0.vote (all_told ts t.0 h t.1))) tellers

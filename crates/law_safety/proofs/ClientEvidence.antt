@@ -42,7 +42,8 @@ pub record Evident (n : ℕ) (w : World) (s : ClientState) : Type 0 where
 pub accepted_fact_grows : (p : Plan) (w w' : World) → Step p w w' → (x : Exec) (v r : ℕ) → AcceptedFact (w.replica r) x v → AcceptedFact (w'.replica r) x v
 accepted_fact_grows p w w' s x v r f = replica_grows p w w' s (λ h. AcceptedFact h x v) (λ h m k. (k.0, IsIn-right k.0 (new_acceptance h m.body) (acceptances h) k.1, k.2, k.3)) r f
 
-evidence_grows : (p : Plan) (w w' : World) → Step p w w' → (x : Exec) (k : Content) (vs : List CountedVote) (o : Option Choice) (acs : List ℕ) → Evidence p.replicas w x k vs o acs → Evidence p.replicas w' x k vs o acs
+evidence_grows : (p : Plan) (w w' : World) → Step p w w' → (x : Exec) (k : Content) (vs : List CountedVote) (o : Option Choice) (acs : List ℕ) →
+    Evidence p.replicas w x k vs o acs → Evidence p.replicas w' x k vs o acs
 evidence_grows p w w' s x k vs o acs e = record {
   prepare = sent_grows p w w' s _ e.prepare;
   ballot = λ b i. let f = e.ballot b i in (f.0, voted_grows p w w' s x b.vote b.replica f.1);
@@ -53,17 +54,20 @@ evidence_grows p w w' s x k vs o acs e = record {
 }
 
 -- a new state is evident in the new world, where the old one was in it, and what the act sent is there
-act_evident : (p : Plan) (w w' : World) → Reach p w → Step p w w' → (c : ℕ) (s : ClientState) (sent : List Body) → ((b : Body) → IsIn b sent → WasSent w' b) → ClientAct (rules p c) (GotAt w c) (w.client c) s sent → Evident p.replicas w' (w.client c) → Evident p.replicas w' s
+act_evident : (p : Plan) (w w' : World) → Reach p w → Step p w w' → (c : ℕ) (s : ClientState) (sent : List Body) → ((b : Body) → IsIn b sent → WasSent w' b) →
+    ClientAct (rules p c) (GotAt w c) (w.client c) s sent → Evident p.replicas w' (w.client c) → Evident p.replicas w' s
 act_evident p w w' q st c s sent new (Quiet act) t = record { phase = λ k vs o acs h. rw act.exec (t.phase k vs o acs (same (w.client c).phase act.stage k vs o acs h)) }
   where
-    same : (z : Phase) → SameStage z s.phase → (k : Content) (vs : List CountedVote) (o : Option Choice) (acs : List ℕ) → s.phase ≡ Prepared k vs o acs → z ≡ Prepared k vs o acs
+    same : (z : Phase) → SameStage z s.phase → (k : Content) (vs : List CountedVote) (o : Option Choice) (acs : List ℕ) → s.phase ≡ Prepared k vs o acs →
+        z ≡ Prepared k vs o acs
     same Between g k vs o acs h = cc
     same (Running a b) g k vs o acs h = absurd (subst IsRunning h g)
     same (Prepared k' v' o' a') g k vs o acs h = sym g ∙ h
 act_evident p w w' q st c s sent new (Advances act) t = record { phase = λ k vs o acs h. absurd (subst IsRunning h act.running) }
 act_evident p w w' q st c s sent new (Prepares act) t = record { phase = λ k vs o acs h. go k vs o acs (sym h ∙ act.phase) }
   where
-    go : (k : Content) (vs : List CountedVote) (o : Option Choice) (acs : List ℕ) → Prepared k vs o acs ≡ Prepared act.content [] None [] → Evidence p.replicas w' s.exec k vs o acs
+    go : (k : Content) (vs : List CountedVote) (o : Option Choice) (acs : List ℕ) → Prepared k vs o acs ≡ Prepared act.content [] None [] →
+        Evidence p.replicas w' s.exec k vs o acs
     go k vs o acs z = let z1 : k ≡ act.content = cc in let z2 : vs ≡ [] = cc in let z3 : o ≡ None = cc in let z4 : acs ≡ [] = cc in rw (z1, z2, z3, z4) (record {
       prepare = rw act.exec (new (Prepare (w.client c).exec act.content) (rw act.sends (inl refl)));
       ballot = λ b i. absurd i;
@@ -80,7 +84,9 @@ act_evident p w w' q st c s sent new (Counts act) t = record { phase = λ k vs o
     heard : vote (w'.replica act.replica) (w.client c).exec ≡ Some act.vote
     heard = voted_grows p w w' st _ act.vote act.replica (subst (RFact act.replica (w.replica act.replica)) act.got.4 ((facts_reach p w q).said act.got.0 act.replica act.got.1 act.got.3))
 
-    go : (k : Content) (vs : List CountedVote) (o : Option Choice) (acs : List ℕ) → Prepared k vs o acs ≡ Prepared act.content (act.votes ++ record { replica = act.replica; vote = act.vote } ∷ []) None [] → Evidence p.replicas w' s.exec k vs o acs
+    go : (k : Content) (vs : List CountedVote) (o : Option Choice) (acs : List ℕ) →
+        Prepared k vs o acs ≡ Prepared act.content (act.votes ++ record { replica = act.replica; vote = act.vote } ∷ []) None [] →
+        Evidence p.replicas w' s.exec k vs o acs
     go k vs o acs z = let z1 : k ≡ act.content = cc in let z2 : vs ≡ act.votes ++ record { replica = act.replica; vote = act.vote } ∷ [] = cc in let z3 : o ≡ None = cc in let z4 : acs ≡ [] = cc in rw (z1, z2, z3, z4, act.exec) (record {
       prepare = old.prepare;
       ballot = λ x i. elim (IsIn-cases x act.votes (record { replica = act.replica; vote = act.vote } ∷ []) i) [ inl m ↦ old.ballot x m | inr m ↦ elim m [ inl y ↦ rw y (act.range, heard) | inr y ↦ absurd y ] ];
@@ -91,7 +97,8 @@ act_evident p w w' q st c s sent new (Counts act) t = record { phase = λ k vs o
     })
 act_evident p w w' q st c s sent new (Proposes act) t = record { phase = λ k vs o acs h. go k vs o acs (sym h ∙ act.phase) }
   where
-    go : (k : Content) (vs : List CountedVote) (o : Option Choice) (acs : List ℕ) → Prepared k vs o acs ≡ Prepared act.content act.votes (Some act.choice) [] → Evidence p.replicas w' s.exec k vs o acs
+    go : (k : Content) (vs : List CountedVote) (o : Option Choice) (acs : List ℕ) →
+        Prepared k vs o acs ≡ Prepared act.content act.votes (Some act.choice) [] → Evidence p.replicas w' s.exec k vs o acs
     go k vs o acs z = let old = t.phase act.content act.votes None act.accepts act.before in let z1 : k ≡ act.content = cc in let z2 : vs ≡ act.votes = cc in let z3 : o ≡ Some act.choice = cc in let z4 : acs ≡ [] = cc in rw (z1, z2, z3, z4, act.exec) (record {
       prepare = old.prepare;
       ballot = old.ballot;
@@ -105,7 +112,8 @@ act_evident p w w' q st c s sent new (Accepts act) t = record { phase = λ k vs 
     heard : AcceptedFact (w'.replica act.replica) (w.client c).exec 0
     heard = accepted_fact_grows p w w' st _ 0 act.replica (subst (RFact act.replica (w.replica act.replica)) act.got.4 ((facts_reach p w q).said act.got.0 act.replica act.got.1 act.got.3))
 
-    go : (k : Content) (vs : List CountedVote) (o : Option Choice) (acs : List ℕ) → Prepared k vs o acs ≡ Prepared act.content act.votes (Some act.choice) (act.accepts ++ act.replica ∷ []) → Evidence p.replicas w' s.exec k vs o acs
+    go : (k : Content) (vs : List CountedVote) (o : Option Choice) (acs : List ℕ) →
+        Prepared k vs o acs ≡ Prepared act.content act.votes (Some act.choice) (act.accepts ++ act.replica ∷ []) → Evidence p.replicas w' s.exec k vs o acs
     go k vs o acs z = let old = t.phase act.content act.votes (Some act.choice) act.accepts act.before in let z1 : k ≡ act.content = cc in let z2 : vs ≡ act.votes = cc in let z3 : o ≡ Some act.choice = cc in let z4 : acs ≡ act.accepts ++ act.replica ∷ [] = cc in rw (z1, z2, z3, z4, act.exec) (record {
       prepare = old.prepare;
       ballot = old.ballot;
@@ -141,7 +149,8 @@ pub record DecisionsSent (w : World) (s : ClientState) : Type 0 where
 decisions_grow : (p : Plan) (w w' : World) → Step p w w' → (s : ClientState) → DecisionsSent w s → DecisionsSent w' s
 decisions_grow p w w' st s t = record { sent = λ d i. let k = t.sent d i in (k.0, sent_grows p w w' st _ k.1) }
 
-act_decisions : (p : Plan) (w w' : World) → Step p w w' → (c : ℕ) (s : ClientState) (sent : List Body) → ((b : Body) → IsIn b sent → WasSent w' b) → ClientAct (rules p c) (GotAt w c) (w.client c) s sent → DecisionsSent w' (w.client c) → DecisionsSent w' s
+act_decisions : (p : Plan) (w w' : World) → Step p w w' → (c : ℕ) (s : ClientState) (sent : List Body) → ((b : Body) → IsIn b sent → WasSent w' b) →
+    ClientAct (rules p c) (GotAt w c) (w.client c) s sent → DecisionsSent w' (w.client c) → DecisionsSent w' s
 act_decisions p w w' st c s sent new a t = go a
   where
     same : s.decisions ≡ (w.client c).decisions → DecisionsSent w' s

@@ -32,7 +32,8 @@ find_in name x (y ∷ ys) a (inr i) e = finds_cons (same_exec x (name y)) y _ (f
 
 module _ (p : Plan) (pos : 0 < p.replicas) where
   -- what a node decided was sent
-  pub decided_by_sent : (w : World) → Reach p w → (n : NodeId) (x : Exec) (d : Choice) → decided_by w n x ≡ Some d → (o : Option Content) × WasSent w (Decide x d o)
+  pub decided_by_sent : (w : World) → Reach p w → (n : NodeId) (x : Exec) (d : Choice) → decided_by w n x ≡ Some d →
+      (o : Option Content) × WasSent w (Decide x d o)
   decided_by_sent w q (Client c) x d e = let f = mapped_some (λ (y : Decision). y.choice) (find (λ (y : Decision). same_exec x y.exec) (w.client c).decisions) d e in
       let i = found (λ (y : Decision). y.exec) x (w.client c).decisions f.0 f.1 in
       let s = (decisions_reach p pos w q c).sent f.0 i.0 in

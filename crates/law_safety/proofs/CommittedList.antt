@@ -42,7 +42,8 @@ put_from : (c d : CommittedExec) (cs : List CommittedExec) → IsIn d (put_commi
 put_from c d [] i = i
 put_from c d (e ∷ cs) i = go (put_from c d cs) (exec_before c.exec e.exec) (same_exec c.exec e.exec) i
   where
-    go : (IsIn d (put_committed c cs) → (d ≡ c) ⊎ IsIn d cs) → (t u : Bool) → IsIn d (cond t (c ∷ e ∷ cs) (cond u (e ∷ cs) (e ∷ put_committed c cs))) → (d ≡ c) ⊎ IsIn d (e ∷ cs)
+    go : (IsIn d (put_committed c cs) → (d ≡ c) ⊎ IsIn d cs) → (t u : Bool) → IsIn d (cond t (c ∷ e ∷ cs) (cond u (e ∷ cs) (e ∷ put_committed c cs))) →
+        (d ≡ c) ⊎ IsIn d (e ∷ cs)
     go ih true u i = i
     go ih false true i = inr i
     go ih false false (inl z) = inr (inl z)
@@ -67,7 +68,8 @@ unfolding Lists
 put_lists c [] = (c, inl refl, refl)
 put_lists c (e ∷ cs) = go (put_lists c cs) (exec_before c.exec e.exec) (same_exec c.exec e.exec) refl
   where
-    go : Lists (put_committed c cs) c.exec → (t u : Bool) → same_exec c.exec e.exec ≡ u → Lists (cond t (c ∷ e ∷ cs) (cond u (e ∷ cs) (e ∷ put_committed c cs))) c.exec
+    go : Lists (put_committed c cs) c.exec → (t u : Bool) → same_exec c.exec e.exec ≡ u →
+        Lists (cond t (c ∷ e ∷ cs) (cond u (e ∷ cs) (e ∷ put_committed c cs))) c.exec
     go ih true u f = (c, inl refl, refl)
     go ih false true f = (e, inl refl, sym (exec_is c.exec e.exec f))
     go ih false false f = (ih.0, inr ih.1, ih.2)
@@ -76,7 +78,8 @@ put_ordered : (c : CommittedExec) (cs : List CommittedExec) → IsRisingByExec c
 put_ordered c [] r = (λ d i. absurd i, tt)
 put_ordered c (e ∷ cs) r = go (put_ordered c cs r.1) (exec_before c.exec e.exec) refl (same_exec c.exec e.exec) refl
   where
-    go : IsRisingByExec (put_committed c cs) → (t : Bool) → exec_before c.exec e.exec ≡ t → (u : Bool) → same_exec c.exec e.exec ≡ u → IsRisingByExec (cond t (c ∷ e ∷ cs) (cond u (e ∷ cs) (e ∷ put_committed c cs)))
+    go : IsRisingByExec (put_committed c cs) → (t : Bool) → exec_before c.exec e.exec ≡ t → (u : Bool) → same_exec c.exec e.exec ≡ u →
+        IsRisingByExec (cond t (c ∷ e ∷ cs) (cond u (e ∷ cs) (e ∷ put_committed c cs)))
     go ih true f u g = (λ d i. elim i [ inl z ↦ subst (λ (y : CommittedExec). exec_before c.exec y.exec ≡ true) (sym z) f | inr j ↦ exec_chain c.exec e.exec d.exec f (r.0 d j) ], r)
     go ih false f true g = r
     go ih false f false g = (λ d i. elim (put_from c d cs i) [ inl z ↦ subst (λ (y : CommittedExec). exec_before e.exec y.exec ≡ true) (sym z) (exec_after c.exec e.exec f g) | inr j ↦ r.0 d j ], ih)
@@ -100,16 +103,21 @@ attempt_found : (v : Version) (as' : List Attempt) (a : Attempt) → find (λ (b
 attempt_found v [] a e = cc
 attempt_found v (b ∷ bs) a e = go (attempt_found v bs a) (same_version v b.ver) (same_version_tells v b.ver) e
   where
-    go : (find (λ (b : Attempt). same_version v b.ver) bs ≡ Some a → IsIn a bs × (a.ver ≡ v)) → (t : Bool) → ((t ≡ true) × (v ≡ b.ver)) ⊎ ((t ≡ false) × ((v ≡ b.ver) → ⊥)) → cond t (Some b) (find (λ (b : Attempt). same_version v b.ver) bs) ≡ Some a → IsIn a (b ∷ bs) × (a.ver ≡ v)
+    go : (find (λ (b : Attempt). same_version v b.ver) bs ≡ Some a → IsIn a bs × (a.ver ≡ v)) → (t : Bool) →
+        ((t ≡ true) × (v ≡ b.ver)) ⊎ ((t ≡ false) × ((v ≡ b.ver) → ⊥)) → cond t (Some b) (find (λ (b : Attempt). same_version v b.ver) bs) ≡ Some a →
+        IsIn a (b ∷ bs) × (a.ver ≡ v)
     go ih true (inl p) e = let f : b ≡ a = cc in (inl (sym f), ap (λ (y : Attempt). y.ver) (sym f) ∙ sym p.1)
     go ih true (inr p) e = absurd (true_false p.0)
     go ih false p e = let k = ih e in (inr k.0, k.1)
 
-attempt_finds : (v : Version) (as' : List Attempt) (a : Attempt) → IsIn a as' → a.ver ≡ v → (b : Attempt) × (find (λ (b : Attempt). same_version v b.ver) as' ≡ Some b)
+attempt_finds : (v : Version) (as' : List Attempt) (a : Attempt) → IsIn a as' → a.ver ≡ v →
+    (b : Attempt) × (find (λ (b : Attempt). same_version v b.ver) as' ≡ Some b)
 attempt_finds v [] a i e = absurd i
 attempt_finds v (b ∷ bs) a i e = go (attempt_finds v bs a) (same_version v b.ver) (same_version_tells v b.ver) i
   where
-    go : (IsIn a bs → a.ver ≡ v → (c : Attempt) × (find (λ (b : Attempt). same_version v b.ver) bs ≡ Some c)) → (t : Bool) → ((t ≡ true) × (v ≡ b.ver)) ⊎ ((t ≡ false) × ((v ≡ b.ver) → ⊥)) → IsIn a (b ∷ bs) → (c : Attempt) × (cond t (Some b) (find (λ (b : Attempt). same_version v b.ver) bs) ≡ Some c)
+    go : (IsIn a bs → a.ver ≡ v → (c : Attempt) × (find (λ (b : Attempt). same_version v b.ver) bs ≡ Some c)) → (t : Bool) →
+        ((t ≡ true) × (v ≡ b.ver)) ⊎ ((t ≡ false) × ((v ≡ b.ver) → ⊥)) → IsIn a (b ∷ bs) →
+        (c : Attempt) × (cond t (Some b) (find (λ (b : Attempt). same_version v b.ver) bs) ≡ Some c)
     go ih true p i = (b, refl)
     go ih false (inl p) i = absurd (true_false (sym p.0))
     go ih false (inr p) (inl z) = absurd (p.1 (sym e ∙ ap (λ (y : Attempt). y.ver) z))

@@ -17,7 +17,8 @@ use Rattle.law_safety.specs.Replays.{IsReplay, HasReplay, ContentsReplayed, Cont
 use Rattle.law_safety.proofs.OneExecution.{kept_attempt}
 
 -- the content that a client prepares
-content_replay : (p : Plan) (c : ClientState) (x : Exec) (a : Attempt) (e : Ending) (k : Content) → c.begun ≡ a.txn → (walk (rules p x.ver.client) c).ending ≡ Some e → k ≡ content (rules p x.ver.client) c e → IsReplay p x a k
+content_replay : (p : Plan) (c : ClientState) (x : Exec) (a : Attempt) (e : Ending) (k : Content) → c.begun ≡ a.txn →
+    (walk (rules p x.ver.client) c).ending ≡ Some e → k ≡ content (rules p x.ver.client) c e → IsReplay p x a k
 unfolding content
 content_replay p c x a e k n q same = subst (λ (m : ℕ). IsReplay p x (record { ver = a.ver; txn = m; try = a.try }) k) n (record {
   answers = c.answers;

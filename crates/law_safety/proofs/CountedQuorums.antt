@@ -30,7 +30,8 @@ unfolding passed
 passed_in p [] r i = absurd i
 passed_in p (b ∷ bs) r i = go (passed_in p bs r) (p b.vote) refl i
   where
-    go : (IsIn r (passed p bs) → (b : CountedVote) × IsIn b bs × (b.replica ≡ r) × (p b.vote ≡ true)) → (t : Bool) → p b.vote ≡ t → IsIn r (cond t (b.replica ∷ passed p bs) (passed p bs)) → (c : CountedVote) × IsIn c (b ∷ bs) × (c.replica ≡ r) × (p c.vote ≡ true)
+    go : (IsIn r (passed p bs) → (b : CountedVote) × IsIn b bs × (b.replica ≡ r) × (p b.vote ≡ true)) → (t : Bool) → p b.vote ≡ t →
+        IsIn r (cond t (b.replica ∷ passed p bs) (passed p bs)) → (c : CountedVote) × IsIn c (b ∷ bs) × (c.replica ≡ r) × (p c.vote ≡ true)
     go ih true e (inl z) = (b, inl refl, sym z, e)
     go ih true e (inr i) = let k = ih i in (k.0, inr k.1, k.2, k.3)
     go ih false e i = let k = ih i in (k.0, inr k.1, k.2, k.3)
@@ -54,7 +55,8 @@ unfolding passed
 passed_length p [] = refl
 passed_length p (b ∷ bs) = go (passed_length p bs) (p b.vote)
   where
-    go : length (passed p bs) ≡ count_votes p bs → (t : Bool) → length (cond t (b.replica ∷ passed p bs) (passed p bs)) ≡ cond t (suc (count_votes p bs)) (count_votes p bs)
+    go : length (passed p bs) ≡ count_votes p bs → (t : Bool) →
+        length (cond t (b.replica ∷ passed p bs) (passed p bs)) ≡ cond t (suc (count_votes p bs)) (count_votes p bs)
     go ih true = ap suc ih
     go ih false = ih
 
@@ -92,7 +94,9 @@ module _ (n : ℕ) (w : World) (x : Exec) (k : Content) (vs : List CountedVote) 
       go (r ∷ ms) q = let b = passed_in is_final_vote vs r (subst (λ (l : List ℕ). IsIn r l) (sym q) (inl refl)) in (r, subst (λ z. vote (w.replica z) x ≡ Some Final) b.2 ((e.ballot b.0 b.1).1 ∙ ap Some (is_final b.0.vote b.3)))
 
 -- who accepted in a view accepted its choice
-pub accept_quorum : (p : Plan) (w : World) → Reach p w → (x : Exec) (v : ℕ) (d : Choice) (o : Option Content) (js : List ℕ) → HasNoRepeats js → ((j : ℕ) → IsIn j js → ((0 < j) × (j ≤ p.replicas)) × AcceptedFact (w.replica j) x v) → quorum p.replicas ≤ length js → WasSent w (Finalize x v d o) → Quorum p.replicas (HasAccepted w x v d)
+pub accept_quorum : (p : Plan) (w : World) → Reach p w → (x : Exec) (v : ℕ) (d : Choice) (o : Option Content) (js : List ℕ) → HasNoRepeats js →
+    ((j : ℕ) → IsIn j js → ((0 < j) × (j ≤ p.replicas)) × AcceptedFact (w.replica j) x v) → quorum p.replicas ≤ length js → WasSent w (Finalize x v d o) →
+    Quorum p.replicas (HasAccepted w x v d)
 accept_quorum p w q x v d o js dist facts l s = record {
   members = js;
   distinct = dist;

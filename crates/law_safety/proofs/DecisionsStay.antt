@@ -31,17 +31,20 @@ ward_decision_grows p w w' q st k x d o = warden_in_step p w w' st (λ j s. IsIn
     (λ s. ward_stays (warden_rules p s.k) (HeardAt w s.k) (w.warden s.k) s.state s.sent (wardens_positive s.k p.wardens s.real) (wardens_range s.k p.wardens s.real) s.act (wrec_reach p w q s.k) (Decide x d o)) k
 
 -- the newest decision of a list that has one
-client_finds : (x : Exec) (d : Choice) (ds : List Decision) → IsIn (record { exec = x; choice = d }) ds → (e : Choice) × (option_map (λ (y : Decision). y.choice) (find (λ (y : Decision). same_exec x y.exec) ds) ≡ Some e)
+client_finds : (x : Exec) (d : Choice) (ds : List Decision) → IsIn (record { exec = x; choice = d }) ds →
+    (e : Choice) × (option_map (λ (y : Decision). y.choice) (find (λ (y : Decision). same_exec x y.exec) ds) ≡ Some e)
 client_finds x d ds i = let f = some_from (find (λ (y : Decision). same_exec x y.exec) ds) (find_in (λ (y : Decision). y.exec) x ds (record { exec = x; choice = d }) i refl) in
     (f.0.choice, ap (λ (o : Option Decision). option_map (λ (y : Decision). y.choice) o) f.1)
 
-ward_finds : (x : Exec) (s : WardenState) (d : DecidedProposal) → IsIn d s.decisions → d.exec ≡ x → (e : Choice) × (option_map (λ (y : DecidedProposal). y.proposal.choice) (decision_on s x) ≡ Some e)
+ward_finds : (x : Exec) (s : WardenState) (d : DecidedProposal) → IsIn d s.decisions → d.exec ≡ x →
+    (e : Choice) × (option_map (λ (y : DecidedProposal). y.proposal.choice) (decision_on s x) ≡ Some e)
 ward_finds x s d i z = let f = some_from (decision_on s x) (find_in (λ (y : DecidedProposal). y.exec) x s.decisions d i z) in
     (f.0.proposal.choice, ap (λ (o : Option DecidedProposal). option_map (λ (y : DecidedProposal). y.proposal.choice) o) f.1)
 
 module _ (p : Plan) (pos : 0 < p.replicas) where
   -- a node that decided something has decided something after a step
-  decides_still : (w w' : World) → Reach p w → Step p w w' → (n : NodeId) (x : Exec) (d : Choice) → decided_by w n x ≡ Some d → (e : Choice) × (decided_by w' n x ≡ Some e)
+  decides_still : (w w' : World) → Reach p w → Step p w w' → (n : NodeId) (x : Exec) (d : Choice) → decided_by w n x ≡ Some d →
+      (e : Choice) × (decided_by w' n x ≡ Some e)
   decides_still w w' q st (Replica r) x d e = (d, replica_grows p w w' st (λ (h : Handled). decided h x ≡ Some d) (λ h m f. decided_stays h m x d f) r e)
   decides_still w w' q st (Client c) x d e =
       let f = mapped_some (λ (y : Decision). y.choice) (find (λ (y : Decision). same_exec x y.exec) (w.client c).decisions) d e in

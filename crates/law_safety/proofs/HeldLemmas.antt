@@ -18,11 +18,13 @@ use Rattle.protocol.proofs.ListsLemmas.{IsIn-cases, IsIn-map}
 use Rattle.law_steps.proofs.TakenLemmas.{IsIn-filtered}
 use Rattle.law_safety.proofs.BaseEntries.{entry_wid}
 
-last_none : (x : Exec) (s : Bool) (i : ℕ) (k : Key) (ws : List Write) → last_write x s i k ws ≡ None → (e : BaseEntry) → IsIn e (entries_of x i ws) → e.key ≡ k → ⊥
+last_none : (x : Exec) (s : Bool) (i : ℕ) (k : Key) (ws : List Write) → last_write x s i k ws ≡ None → (e : BaseEntry) → IsIn e (entries_of x i ws) →
+    e.key ≡ k → ⊥
 last_none x s i k [] q e j f = j
 last_none x s i k (w ∷ ws) q e j f = go (λ z m. last_none x s (suc i) k ws z e m f) (last_write x s (suc i) k ws) refl (same_key k w.key) refl q j
   where
-    go : (last_write x s (suc i) k ws ≡ None → IsIn e (entries_of x (suc i) ws) → ⊥) → (o : Option Held) → last_write x s (suc i) k ws ≡ o → (t : Bool) → same_key k w.key ≡ t
+    go : (last_write x s (suc i) k ws ≡ None → IsIn e (entries_of x (suc i) ws) → ⊥) → (o : Option Held) → last_write x s (suc i) k ws ≡ o → (t : Bool) →
+        same_key k w.key ≡ t
         → option_or o (then_some t (record { wid = record { ver = x.ver; eid = x.eid; seq = i }; value = w.value; sure = s })) ≡ None → IsIn e (entries_of x i (w ∷ ws)) → ⊥
     go ih (Some b) g t h z m = cc
     go ih None g true h z m = cc
@@ -48,7 +50,8 @@ last_is x s i k (w ∷ ws) a q = go (λ z. last_is x s (suc i) k ws a z) (last_w
       last = λ e j f. elim j [ inl z ↦ subst (λ (y : Wid). wid_before (record { ver = x.ver; eid = x.eid; seq = i }) y ≡ false) (ap (λ (y : BaseEntry). y.wid) (sym z)) (wid_itself (record { ver = x.ver; eid = x.eid; seq = i })) | inr m ↦ absurd (last_none x s (suc i) k ws n e m f) ];
     }
 
-    go : (last_write x s (suc i) k ws ≡ Some a → LastIs x s (suc i) k ws a) → (o : Option Held) → last_write x s (suc i) k ws ≡ o → (t : Bool) → same_key k w.key ≡ t
+    go : (last_write x s (suc i) k ws ≡ Some a → LastIs x s (suc i) k ws a) → (o : Option Held) → last_write x s (suc i) k ws ≡ o → (t : Bool) →
+        same_key k w.key ≡ t
         → option_or o (then_some t (record { wid = record { ver = x.ver; eid = x.eid; seq = i }; value = w.value; sure = s })) ≡ Some a → LastIs x s i k (w ∷ ws) a
     go ih (Some b) g t h z = let r = ih (g ∙ z) in let n = entry_wid x (suc i) ws _ r.entry in record {
       sure = r.sure;
@@ -66,7 +69,8 @@ best_is : (v : Version) (b : Held) (xs : List Held) → (best_below v b xs ≡ b
 best_is v b [] = inl refl
 best_is v b (a ∷ more) = go (λ c. best_is v c more) (before a.wid.ver v && wid_before b.wid a.wid) refl
   where
-    go : ((c : Held) → (best_below v c more ≡ c) ⊎ (IsIn (best_below v c more) more × (before (best_below v c more).wid.ver v ≡ true))) → (t : Bool) → (before a.wid.ver v && wid_before b.wid a.wid) ≡ t
+    go : ((c : Held) → (best_below v c more ≡ c) ⊎ (IsIn (best_below v c more) more × (before (best_below v c more).wid.ver v ≡ true))) → (t : Bool) →
+        (before a.wid.ver v && wid_before b.wid a.wid) ≡ t
         → (best_below v (cond t a b) more ≡ b) ⊎ (IsIn (best_below v (cond t a b) more) (a ∷ more) × (before (best_below v (cond t a b) more).wid.ver v ≡ true))
     go ih true q = elim (ih a) [ inl z ↦ inr (inl z, subst (λ (y : Held). before y.wid.ver v ≡ true) (sym z) (and_left (before a.wid.ver v) _ q)) | inr z ↦ inr (inr z.0, z.1) ]
     go ih false q = elim (ih b) [ inl z ↦ inl z | inr z ↦ inr (inr z.0, z.1) ]
@@ -83,7 +87,8 @@ IsIn-filter_map : {A B : Type 0} (f : A → Option B) (b : B) (xs : List A) → 
 IsIn-filter_map f b [] i = absurd i
 IsIn-filter_map {A} {B} f b (x ∷ xs) i = go (λ j. IsIn-filter_map f b xs j) (f x) refl i
   where
-    go : (IsIn b (filter_map f xs) → (a : A) × IsIn a xs × (f a ≡ Some b)) → (o : Option B) → f x ≡ o → IsIn b (cons_option o (filter_map f xs)) → (a : A) × IsIn a (x ∷ xs) × (f a ≡ Some b)
+    go : (IsIn b (filter_map f xs) → (a : A) × IsIn a xs × (f a ≡ Some b)) → (o : Option B) → f x ≡ o → IsIn b (cons_option o (filter_map f xs)) →
+        (a : A) × IsIn a (x ∷ xs) × (f a ≡ Some b)
     go ih None q i = let k = ih i in (k.0, inr k.1, k.2)
     go ih (Some c) q (inl z) = (x, inl refl, q ∙ ap Some (sym z))
     go ih (Some c) q (inr i) = let k = ih i in (k.0, inr k.1, k.2)
@@ -95,7 +100,8 @@ pub data HeldCase (firsts : List First2) (h : Handled) (k : Key) (a : Held) : Ty
   Of_commit : (c : Kept) → IsIn c (commits h) → last_write c.exec true 1 k c.content.writes ≡ Some a → HeldCase firsts h k a
   Of_put : (v : Version) (q : Put) → kept_put h v ≡ Some q → last_write q.exec false 1 k q.writes ≡ Some a → HeldCase firsts h k a
 
-counted_put : (h : Handled) (k : Key) (v : Version) (a : Held) (o : Option Put) → last_put k (counting_put h v o) ≡ Some a → (q : Put) × (o ≡ Some q) × (last_write q.exec false 1 k q.writes ≡ Some a)
+counted_put : (h : Handled) (k : Key) (v : Version) (a : Held) (o : Option Put) → last_put k (counting_put h v o) ≡ Some a →
+    (q : Put) × (o ≡ Some q) × (last_write q.exec false 1 k q.writes ≡ Some a)
 counted_put h k v a None e = cc
 counted_put h k v a (Some p) e = go (not (list_any (λ x. same_version v x.ver && nat_le p.exec.eid x.eid) (abandons h))) e
   where
@@ -117,7 +123,8 @@ held_is firsts h k a (inr i) = elim (IsIn-cases a (map (λ (b : BaseEntry). reco
   ]
 ]
 
-pub latest_is : (firsts : List First2) (h : Handled) (k : Key) (v : Version) → before no_version v ≡ true → (before (latest firsts h k v).wid.ver v ≡ true) × HeldCase firsts h k (latest firsts h k v)
+pub latest_is : (firsts : List First2) (h : Handled) (k : Key) (v : Version) → before no_version v ≡ true →
+    (before (latest firsts h k v).wid.ver v ≡ true) × HeldCase firsts h k (latest firsts h k v)
 unfolding latest
 latest_is firsts h k v n = elim (best_is v (first_held firsts k) (held firsts h k)) [
   | inl z ↦ (subst (λ (y : Held). before y.wid.ver v ≡ true) (sym z) (subst (λ (y : Wid). before y.ver v ≡ true) (sym (first_is firsts k)) n), Is_first z)
@@ -135,13 +142,17 @@ kept_taken (m ∷ h) v q e = go (λ z. kept_taken h v q z) m.body refl (kept_put
     puts_is : (x : Exec) (ws : List Write) (a : Put) → a ≡ record { exec = x; writes = ws } → Puts x ws ≡ Puts a.exec a.writes
     puts_is x ws a e = rw e refl
 
-    here : (x : Exec) (ws : List Write) → m.body ≡ Puts x ws → record { exec = x; writes = ws } ≡ q → (n : Envelope) × IsIn n (m ∷ h) × (n.body ≡ Puts q.exec q.writes)
+    here : (x : Exec) (ws : List Write) → m.body ≡ Puts x ws → record { exec = x; writes = ws } ≡ q →
+        (n : Envelope) × IsIn n (m ∷ h) × (n.body ≡ Puts q.exec q.writes)
     here x ws b z = (m, inl refl, b ∙ puts_is x ws q (sym z))
 
-    older : (kept_put h v ≡ Some q → (n : Envelope) × IsIn n h × (n.body ≡ Puts q.exec q.writes)) → kept_put h v ≡ Some q → (n : Envelope) × IsIn n (m ∷ h) × (n.body ≡ Puts q.exec q.writes)
+    older : (kept_put h v ≡ Some q → (n : Envelope) × IsIn n h × (n.body ≡ Puts q.exec q.writes)) → kept_put h v ≡ Some q →
+        (n : Envelope) × IsIn n (m ∷ h) × (n.body ≡ Puts q.exec q.writes)
     older ih z = let k = ih z in (k.0, inr k.1, k.2)
 
-    choose : (kept_put h v ≡ Some q → (n : Envelope) × IsIn n h × (n.body ≡ Puts q.exec q.writes)) → (x : Exec) (ws : List Write) → m.body ≡ Puts x ws → (o : Option Put) → kept_put h v ≡ o → larger o (record { exec = x; writes = ws }) ≡ Some q → (n : Envelope) × IsIn n (m ∷ h) × (n.body ≡ Puts q.exec q.writes)
+    choose : (kept_put h v ≡ Some q → (n : Envelope) × IsIn n h × (n.body ≡ Puts q.exec q.writes)) → (x : Exec) (ws : List Write) → m.body ≡ Puts x ws →
+        (o : Option Put) → kept_put h v ≡ o → larger o (record { exec = x; writes = ws }) ≡ Some q →
+        (n : Envelope) × IsIn n (m ∷ h) × (n.body ≡ Puts q.exec q.writes)
     choose ih x ws b None f z = here x ws b (some_is (record { exec = x; writes = ws }) q z)
     choose ih x ws b (Some p) f z = by (nat_lt p.exec.eid x.eid || (p.exec.eid == x.eid && nat_lt (length p.writes) (length ws))) z
       where
@@ -149,7 +160,8 @@ kept_taken (m ∷ h) v q e = go (λ z. kept_taken h v q z) m.body refl (kept_put
         by true z = here x ws b (some_is (record { exec = x; writes = ws }) q z)
         by false z = older ih (f ∙ z)
 
-    go : (kept_put h v ≡ Some q → (n : Envelope) × IsIn n h × (n.body ≡ Puts q.exec q.writes)) → (b : Body) → m.body ≡ b → (o : Option Put) → kept_put h v ≡ o → put_after v o b ≡ Some q → (n : Envelope) × IsIn n (m ∷ h) × (n.body ≡ Puts q.exec q.writes)
+    go : (kept_put h v ≡ Some q → (n : Envelope) × IsIn n h × (n.body ≡ Puts q.exec q.writes)) → (b : Body) → m.body ≡ b → (o : Option Put) →
+        kept_put h v ≡ o → put_after v o b ≡ Some q → (n : Envelope) × IsIn n (m ∷ h) × (n.body ≡ Puts q.exec q.writes)
     go ih (Puts x ws) b o f z = by (same_version v x.ver) z
       where
         by : (t : Bool) → cond t (larger o (record { exec = x; writes = ws })) o ≡ Some q → (n : Envelope) × IsIn n (m ∷ h) × (n.body ≡ Puts q.exec q.writes)

@@ -15,5 +15,6 @@ pub record Safe (n : ℕ) (w : World) : Type 0 where
   pub abandoned : (x : Exec) (o : Option Content) → WasSent w (Decide x Abandon o) → AbandonLock n w x
   pub committed : (x : Exec) (o : Option Content) → WasSent w (Decide x ToCommit o) → CommitLock n w x × Quorum n (VotedCommit w x)
   pub final : (x : Exec) (r : ℕ) → vote (w.replica r) x ≡ Some Final → AbandonLock n w x
-  pub cut : (v : Version) (bs : List BaseEntry) → WasSent w (Drops v bs) → (x : Exec) → UpTo x.ver v → ((o : Option Content) × WasSent w (Decide x ToCommit o)) ⊎ AbandonLock n w x
+  pub cut : (v : Version) (bs : List BaseEntry) → WasSent w (Drops v bs) → (x : Exec) → UpTo x.ver v →
+      ((o : Option Content) × WasSent w (Decide x ToCommit o)) ⊎ AbandonLock n w x
   pub bases : Bases w

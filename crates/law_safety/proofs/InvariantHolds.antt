@@ -39,7 +39,8 @@ use Rattle.law_safety.proofs.TruncationSettles.{commit_prepared, apart_locks, Co
 
 module _ (p : Plan) (pos : 0 < p.replicas) where
   -- the content of a commit is that of the cast
-  same_content : (w : World) (q : Reach p w) → (s : Safe p.replicas w) → (r : ℕ) (c : Cast) → IsIn c (casts (w.replica r)) → (l : Kept) → IsIn l (commits (w.replica r)) → l.exec ≡ c.exec → l.content ≡ c.content
+  same_content : (w : World) (q : Reach p w) → (s : Safe p.replicas w) → (r : ℕ) (c : Cast) → IsIn c (casts (w.replica r)) → (l : Kept) →
+      IsIn l (commits (w.replica r)) → l.exec ≡ c.exec → l.content ≡ c.content
   same_content w q s r c i l j e = same_prepared p w q c.exec l.content c.content
       (subst (λ (y : Exec). WasSent w (Prepare y l.content)) e (commit_prepared p pos w q s r l j)) (cast_sent p w q r c i)
 
@@ -54,7 +55,8 @@ module _ (p : Plan) (pos : 0 < p.replicas) where
   -- and the later one is not in conflict with the base
   pub data SetApart (h : Handled) (c d : Cast) : Type 0 where
     Gone : decided h c.exec ≡ Some Abandon → SetApart h c d
-    Passed_by : (g : Handled) → ((m : Envelope) → IsIn m g → IsIn m h) → UpTo c.exec.ver (dropped g) → before no_version c.exec.ver ≡ true → before (dropped g) d.exec.ver ≡ true → list_any (conflicts_with_base d.exec.ver d.content) (base g) ≡ false → SetApart h c d
+    Passed_by : (g : Handled) → ((m : Envelope) → IsIn m g → IsIn m h) → UpTo c.exec.ver (dropped g) → before no_version c.exec.ver ≡ true →
+        before (dropped g) d.exec.ver ≡ true → list_any (conflicts_with_base d.exec.ver d.content) (base g) ≡ false → SetApart h c d
 
   set_apart_more : (h : Handled) (m : Envelope) (c d : Cast) → SetApart h c d → SetApart (m ∷ h) c d
   set_apart_more h m c d (Gone e) = Gone (decided_stays h m c.exec Abandon e)
@@ -63,10 +65,12 @@ module _ (p : Plan) (pos : 0 < p.replicas) where
   abbrev pub IsTwo : Handled → Type 0
   IsTwo h = (c d : Cast) → IsIn c (casts h) → IsIn d (casts h) → c.vote ≡ Commit → d.vote ≡ Commit → conflicts c.exec.ver c.content d.exec.ver d.content ≡ true → SetApart h c d ⊎ SetApart h d c
 
-  two_cons : (w : World) (q : Reach p w) → Safe p.replicas w → (r : ℕ) (m : Envelope) → takes (w.replica r) m.body ≡ true → IsTwo (w.replica r) → IsTwo (m ∷ w.replica r)
+  two_cons : (w : World) (q : Reach p w) → Safe p.replicas w → (r : ℕ) (m : Envelope) → takes (w.replica r) m.body ≡ true → IsTwo (w.replica r) →
+      IsTwo (m ∷ w.replica r)
   two_cons w q s r m tk t c d i j v u f = go (IsIn-cases c (new_cast (w.replica r) (casts (w.replica r)) m.body) (casts (w.replica r)) i) (IsIn-cases d (new_cast (w.replica r) (casts (w.replica r)) m.body) (casts (w.replica r)) j)
     where
-      older : (n o : Cast) → IsIn n (new_cast (w.replica r) (casts (w.replica r)) m.body) → IsIn o (casts (w.replica r)) → n.vote ≡ Commit → o.vote ≡ Commit → conflicts n.exec.ver n.content o.exec.ver o.content ≡ true → SetApart (m ∷ w.replica r) o n
+      older : (n o : Cast) → IsIn n (new_cast (w.replica r) (casts (w.replica r)) m.body) → IsIn o (casts (w.replica r)) → n.vote ≡ Commit → o.vote ≡ Commit →
+          conflicts n.exec.ver n.content o.exec.ver o.content ≡ true → SetApart (m ∷ w.replica r) o n
       older n o i j v u f = let g = cast_is (w.replica r) m.body n i in
           let e : verdict (w.replica r) (casts (w.replica r)) n.exec n.content ≡ Commit = sym g.1 ∙ v in
           elim (earlier_settled (w.replica r) n.exec n.content o (well_reach p w q r) (λ l k z. same_content w q s r o j l k z) j u f e) [
@@ -75,7 +79,9 @@ module _ (p : Plan) (pos : 0 < p.replicas) where
                 (subst (λ (b : Body). is_above (dropped (w.replica r)) (version_of b) ≡ true) g.0 (takes_above (w.replica r) m.body tk)) (verdict_commit (w.replica r) (casts (w.replica r)) n.exec n.content e).base
           ]
 
-      go : IsIn c (new_cast (w.replica r) (casts (w.replica r)) m.body) ⊎ IsIn c (casts (w.replica r)) → IsIn d (new_cast (w.replica r) (casts (w.replica r)) m.body) ⊎ IsIn d (casts (w.replica r)) → SetApart (m ∷ w.replica r) c d ⊎ SetApart (m ∷ w.replica r) d c
+      go : IsIn c (new_cast (w.replica r) (casts (w.replica r)) m.body) ⊎ IsIn c (casts (w.replica r)) →
+          IsIn d (new_cast (w.replica r) (casts (w.replica r)) m.body) ⊎ IsIn d (casts (w.replica r)) →
+          SetApart (m ∷ w.replica r) c d ⊎ SetApart (m ∷ w.replica r) d c
       go (inr i) (inr j) = elim (t c d i j v u f) [ inl z ↦ inl (set_apart_more (w.replica r) m c d z) | inr z ↦ inr (set_apart_more (w.replica r) m d c z) ]
       go (inl i) (inr j) = inr (older c d i j v u f)
       go (inr i) (inl j) = inl (older d c j i u v (sym (conflicts_both_ways c.exec.ver d.exec.ver c.content d.content) ∙ f))
@@ -94,7 +100,8 @@ module _ (p : Plan) (pos : 0 < p.replicas) where
   two_step w w' q st z t r = replica_in_step p w w' st (λ j. IsTwo) (λ s. two_taking w q z s.r s.m) r (t r)
 
   -- of two votes for Commit in conflict at one replica, Abandon of one is locked
-  set_apart_lock : (w : World) (q : Reach p w) → Safe p.replicas w → (r : ℕ) (c d : Cast) → IsIn c (casts (w.replica r)) → conflicts d.exec.ver d.content c.exec.ver c.content ≡ true → SetApart (w.replica r) c d → AbandonLock p.replicas w c.exec
+  set_apart_lock : (w : World) (q : Reach p w) → Safe p.replicas w → (r : ℕ) (c d : Cast) → IsIn c (casts (w.replica r)) →
+      conflicts d.exec.ver d.content c.exec.ver c.content ≡ true → SetApart (w.replica r) c d → AbandonLock p.replicas w c.exec
   set_apart_lock w q s r c d i f (Gone e) = let a = decided_sent p w q c.exec Abandon r e in s.abandoned c.exec a.0 a.1
   set_apart_lock w q s r c d i f (Passed_by g sub u n a e) =
       let mail : (m : Envelope) → IsIn m g → IsIn m w.mail = λ m j. ((took_reach p w q).took r m (sub m j)).0 in
@@ -103,7 +110,9 @@ module _ (p : Plan) (pos : 0 < p.replicas) where
         | inl k ↦ absurd (true_false (sym (dropped_conflict w s.bases g mail d.exec d.content a c.exec c.content k.0 k.1 (cast_sent p w q r c i) n u f) ∙ e))
       ]
 
-  two_locked : (w : World) (q : Reach p w) → Safe p.replicas w → (r : ℕ) (c d : Cast) → IsIn c (casts (w.replica r)) → IsIn d (casts (w.replica r)) → conflicts c.exec.ver c.content d.exec.ver d.content ≡ true → SetApart (w.replica r) c d ⊎ SetApart (w.replica r) d c → AbandonLock p.replicas w c.exec ⊎ AbandonLock p.replicas w d.exec
+  two_locked : (w : World) (q : Reach p w) → Safe p.replicas w → (r : ℕ) (c d : Cast) → IsIn c (casts (w.replica r)) → IsIn d (casts (w.replica r)) →
+      conflicts c.exec.ver c.content d.exec.ver d.content ≡ true → SetApart (w.replica r) c d ⊎ SetApart (w.replica r) d c →
+      AbandonLock p.replicas w c.exec ⊎ AbandonLock p.replicas w d.exec
   two_locked w q s r c d i j f (inl z) = inl (set_apart_lock w q s r c d i (conflicts_both_ways d.exec.ver c.exec.ver d.content c.content ∙ f) z)
   two_locked w q s r c d i j f (inr z) = inr (set_apart_lock w q s r d c j f z)
 
@@ -111,7 +120,8 @@ module _ (p : Plan) (pos : 0 < p.replicas) where
   AllTwo w = (r : ℕ) → IsTwo (w.replica r)
 
   -- a conflict with something committed locks Abandon
-  pub conflict_locks : (w : World) (q : Reach p w) → Safe p.replicas w → AllTwo w → (x : Exec) (k : Content) → WasSent w (Prepare x k) → (y : Exec) (l : Content) → CommitSent w y → WasSent w (Prepare y l) → conflicts x.ver k y.ver l ≡ true → AbandonLock p.replicas w x
+  pub conflict_locks : (w : World) (q : Reach p w) → Safe p.replicas w → AllTwo w → (x : Exec) (k : Content) → WasSent w (Prepare x k) →
+      (y : Exec) (l : Content) → CommitSent w y → WasSent w (Prepare y l) → conflicts x.ver k y.ver l ≡ true → AbandonLock p.replicas w x
   conflict_locks w q s two x k t y l cy pr f =
       elim (each_or (Shut w x) (AbandonLock p.replicas w x) voters.members (λ u j. member u (voters.each u j))) [
         | inl g ↦ All_shut (record { members = voters.members; distinct = voters.distinct; ranged = voters.ranged; each = g; many = voters.many })
@@ -139,11 +149,13 @@ module _ (p : Plan) (pos : 0 < p.replicas) where
           ]
 
   -- a Final vote locks Abandon
-  final_taking : (w : World) (q : Reach p w) → Safe p.replicas w → AllTwo w → (x : Exec) (r : ℕ) (m : Envelope) → IsIn m w.mail → vote (after_taking (w.replica r) m) x ≡ Some Final → AbandonLock p.replicas w x
+  final_taking : (w : World) (q : Reach p w) → Safe p.replicas w → AllTwo w → (x : Exec) (r : ℕ) (m : Envelope) → IsIn m w.mail →
+      vote (after_taking (w.replica r) m) x ≡ Some Final → AbandonLock p.replicas w x
   unfolding after_taking
   final_taking w q s two x r m i e = go (takes (w.replica r) m.body) e
     where
-      at_base : (k : Content) → WasSent w (Prepare x k) → (b : BaseEntry) → IsIn b (base (w.replica r)) → conflicts_with_base x.ver k b ≡ true → AbandonLock p.replicas w x
+      at_base : (k : Content) → WasSent w (Prepare x k) → (b : BaseEntry) → IsIn b (base (w.replica r)) → conflicts_with_base x.ver k b ≡ true →
+          AbandonLock p.replicas w x
       at_base k t b j f = go (before no_version (dropped (w.replica r))) refl
         where
           go : (z : Bool) → before no_version (dropped (w.replica r)) ≡ z → AbandonLock p.replicas w x
@@ -166,7 +178,8 @@ module _ (p : Plan) (pos : 0 < p.replicas) where
       go true e = cons e
       go false e = s.final x r e
 
-  final_before : (w w' : World) (q : Reach p w) → Step p w w' → Safe p.replicas w → AllTwo w → (x : Exec) (r : ℕ) → vote (w'.replica r) x ≡ Some Final → AbandonLock p.replicas w x
+  final_before : (w w' : World) (q : Reach p w) → Step p w w' → Safe p.replicas w → AllTwo w → (x : Exec) (r : ℕ) → vote (w'.replica r) x ≡ Some Final →
+      AbandonLock p.replicas w x
   final_before w w' q st s two x r = replica_in_step p w w' st (λ j h. vote h x ≡ Some Final → AbandonLock p.replicas w x) (λ t k. final_taking w q s two x t.r t.m t.in_mail) r (s.final x r)
 
   -- Drops
@@ -199,7 +212,8 @@ module _ (p : Plan) (pos : 0 < p.replicas) where
         go (Of_warden ws a i e f) = let o = ward_dropped (warden_rules p ws.k) (HeardAt w ws.k) (w.warden ws.k) ws.state ws.sent ws.act a v bs i e in
             subst (λ (z : Version). Written w z d) (sym o.version) (base_written p pos w q s ws.k o.trunc o.there o.many o.all d (subst (λ (z : List BaseEntry). IsIn d z) o.bases j))
 
-    holds_before : (v : Version) (bs : List BaseEntry) → WasSent w' (Drops v bs) → (y : Exec) (l : Content) → CommitSent w y → WasSent w (Prepare y l) → UpTo y.ver v → (e : BaseEntry) → IsIn e (entries_of y 1 l.writes) → HasEntry bs e
+    holds_before : (v : Version) (bs : List BaseEntry) → WasSent w' (Drops v bs) → (y : Exec) (l : Content) → CommitSent w y → WasSent w (Prepare y l) →
+        UpTo y.ver v → (e : BaseEntry) → IsIn e (entries_of y 1 l.writes) → HasEntry bs e
     holds_before v bs t y l c pr u e j = go (origin p w w' q st _ t)
       where
         go : Origin p w w' (Drops v bs) → HasEntry bs e
@@ -209,7 +223,8 @@ module _ (p : Plan) (pos : 0 < p.replicas) where
         go (Of_warden ws a i z f) = let o = ward_dropped (warden_rules p ws.k) (HeardAt w ws.k) (w.warden ws.k) ws.state ws.sent ws.act a v bs i z in
             subst (λ (z : List BaseEntry). HasEntry z e) (sym o.bases) (base_holds p pos w q s ws.k o.trunc o.there o.many o.all y l c pr (subst (λ (z : Version). UpTo y.ver z) o.version u) e j)
 
-    holds_step : (v : Version) (bs : List BaseEntry) → WasSent w' (Drops v bs) → (y : Exec) (l : Content) (o : Option Content) → WasSent w' (Decide y ToCommit o) → WasSent w' (Prepare y l) → UpTo y.ver v → (e : BaseEntry) → IsIn e (entries_of y 1 l.writes) → HasEntry bs e
+    holds_step : (v : Version) (bs : List BaseEntry) → WasSent w' (Drops v bs) → (y : Exec) (l : Content) (o : Option Content) →
+        WasSent w' (Decide y ToCommit o) → WasSent w' (Prepare y l) → UpTo y.ver v → (e : BaseEntry) → IsIn e (entries_of y 1 l.writes) → HasEntry bs e
     holds_step v bs t y l o d pr u e j = elim (settled_before v bs t y u) [
       | inr a ↦ absurd (locks_clash p w' (Next w w' q st) (proposals_step p pos w w' q (commit_ground w q s) st s) y (abandon_lock_stays p w w' q st (commit_ground w q s) y a) (committed_step p pos w w' q (commit_ground w q s) st s y o d).0)
       | inl c ↦ prepared c

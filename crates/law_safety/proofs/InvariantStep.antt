@@ -54,7 +54,8 @@ pub record Behind (p : Plan) (w : World) (x : Exec) (v : ℕ) (d : Choice) : Typ
   pub choice : (fixed tolds).choice ≡ d
 
 module _ (p : Plan) (pos : 0 < p.replicas) (w w' : World) (q : Reach p w) (commit_ground : CommitGround w) where
-  behind : (ws : ByWardenAct p w w') → (x : Exec) (v : ℕ) (d : Choice) (o : Option Content) → WFact p.wardens ws.k (w'.warden ws.k) (Finalize x v d o) → Behind p w x v d
+  behind : (ws : ByWardenAct p w w') → (x : Exec) (v : ℕ) (d : Choice) (o : Option Content) → WFact p.wardens ws.k (w'.warden ws.k) (Finalize x v d o) →
+      Behind p w x v d
   behind ws x v d o f =
       let g = round_found x v (w'.warden ws.k).rounds f.1.0 f.1.1 in
       let e = (ward_reach p pos w' (Next w w' q (Warden_acts ws)) ws.k).round f.1.0 g.0 in
@@ -75,7 +76,8 @@ module _ (p : Plan) (pos : 0 < p.replicas) (w w' : World) (q : Reach p w) (commi
     below = λ x v d o t u l. below_go x v d o u l (origin p w w' q st _ t);
   }
     where
-      mine : (cs : ByClientAct p w w') (x : Exec) (v : ℕ) (d : Choice) (o : Option Content) → IsIn (Finalize x v d o) cs.sent → ProposalOf p.replicas (w.client cs.c) x v d
+      mine : (cs : ByClientAct p w w') (x : Exec) (v : ℕ) (d : Choice) (o : Option Content) → IsIn (Finalize x v d o) cs.sent →
+          ProposalOf p.replicas (w.client cs.c) x v d
       mine cs x v d o i = proposal_of (rules p cs.c) (GotAt w cs.c) (w.client cs.c) cs.state cs.sent cs.act x v d o i
 
       commit_go : (x : Exec) (v : ℕ) (o : Option Content) → Origin p w w' (Finalize x v ToCommit o) → Quorum p.replicas (VotedCommit w' x)
@@ -87,11 +89,13 @@ module _ (p : Plan) (pos : 0 < p.replicas) (w w' : World) (q : Reach p w) (commi
       commit_go x v o (Of_warden ws a i e f) = let b = behind ws x v ToCommit o f in
           quorum_map p.replicas _ _ (λ r h. voted_grows p w w' st x Commit r h) (chosen_commit p w q s x v b.tolds b.facts b.distinct b.many (sym (fixed_chosen p w q s x v b.tolds b.facts b.distinct b.many) ∙ b.choice))
 
-      shut_go : (x : Exec) → ((u : Option Content) × WasSent w (Finalize x 0 Abandon u)) ⊎ ((r : ℕ) × (0 < r) × (r ≤ p.replicas) × Shut w x r) → ((u : Option Content) × WasSent w' (Finalize x 0 Abandon u)) ⊎ ((r : ℕ) × (0 < r) × (r ≤ p.replicas) × Shut w' x r)
+      shut_go : (x : Exec) → ((u : Option Content) × WasSent w (Finalize x 0 Abandon u)) ⊎ ((r : ℕ) × (0 < r) × (r ≤ p.replicas) × Shut w x r) →
+          ((u : Option Content) × WasSent w' (Finalize x 0 Abandon u)) ⊎ ((r : ℕ) × (0 < r) × (r ≤ p.replicas) × Shut w' x r)
       shut_go x (inl z) = inl (z.0, sent_grows p w w' st _ z.1)
       shut_go x (inr z) = inr (z.0, z.1, z.2, shut_stays p w w' q st commit_ground x z.0 z.3)
 
-      abandon_go : (x : Exec) (v : ℕ) (o : Option Content) → WasSent w' (Finalize x v Abandon o) → Origin p w w' (Finalize x v Abandon o) → ((u : Option Content) × WasSent w' (Finalize x 0 Abandon u)) ⊎ ((r : ℕ) × (0 < r) × (r ≤ p.replicas) × Shut w' x r)
+      abandon_go : (x : Exec) (v : ℕ) (o : Option Content) → WasSent w' (Finalize x v Abandon o) → Origin p w w' (Finalize x v Abandon o) →
+          ((u : Option Content) × WasSent w' (Finalize x 0 Abandon u)) ⊎ ((r : ℕ) × (0 < r) × (r ≤ p.replicas) × Shut w' x r)
       abandon_go x v o t (Old z) = shut_go x (s.proposals.abandon x v o z)
       abandon_go x v o t (Of_replica r f) = absurd f
       abandon_go x v o t (Of_client cs i) = let m = mine cs x v Abandon o i in inl (o, subst (λ z. WasSent w' (Finalize x z Abandon o)) m.view t)
@@ -118,11 +122,13 @@ module _ (p : Plan) (pos : 0 < p.replicas) (w w' : World) (q : Reach p w) (commi
   own : (cs : ByClientAct p w w') (x : Exec) → x ≡ (w.client cs.c).exec → IsUnderWay (w.client cs.c).phase → x.ver.client ≡ cs.c
   own cs x e u = ap (λ (z : Exec). z.ver.client) e ∙ (rec_reach p w q cs.c).own u
 
-  over_now : (cs : ByClientAct p w w') (x : Exec) → x ≡ (w.client cs.c).exec → IsUnderWay (w.client cs.c).phase → cs.state.exec ≡ (w.client cs.c).exec → cs.state.phase ≡ Between → Over x (w'.client x.ver.client)
+  over_now : (cs : ByClientAct p w w') (x : Exec) → x ≡ (w.client cs.c).exec → IsUnderWay (w.client cs.c).phase → cs.state.exec ≡ (w.client cs.c).exec →
+      cs.state.phase ≡ Between → Over x (w'.client x.ver.client)
   over_now cs x e u f g = subst (λ (c : ℕ). Over x (w'.client c)) (sym (own cs x e u)) (subst (λ (h : ℕ → ClientState). Over x (h cs.c)) (sym cs.client) (subst (λ (z : ClientState). Over x z) (sym (at_same cs.c cs.state w.client)) (inr (e ∙ sym f, g))))
 
   -- the client decides it now
-  decides_now : (cs : ByClientAct p w w') (x : Exec) (d : Choice) (o : Option Content) → x ≡ (w.client cs.c).exec → IsUnderWay (w.client cs.c).phase → cs.sent ≡ Decide x d o ∷ [] → ClientDecided w' x d
+  decides_now : (cs : ByClientAct p w w') (x : Exec) (d : Choice) (o : Option Content) → x ≡ (w.client cs.c).exec → IsUnderWay (w.client cs.c).phase →
+      cs.sent ≡ Decide x d o ∷ [] → ClientDecided w' x d
   decides_now cs x d o e u q' =
       let here : IsIn (record { exec = x; choice = d }) cs.state.decisions = said_new (rules p cs.c) (GotAt w cs.c) (w.client cs.c) cs.state cs.sent (rec_reach p w q cs.c) cs.act (Decide x d o) (subst (λ (l : List Body). IsIn (Decide x d o) l) (sym q') (inl refl)) in
       subst (λ (c : ℕ). IsIn (record { exec = x; choice = d }) (w'.client c).decisions) (sym (own cs x e u))
@@ -130,7 +136,8 @@ module _ (p : Plan) (pos : 0 < p.replicas) (w w' : World) (q : Reach p w) (commi
       (subst (λ (z : ClientState). IsIn (record { exec = x; choice = d }) z.decisions) (sym (at_same cs.c cs.state w.client)) here))
 
   -- the client gave up: nothing of x was prepared, and nothing will be
-  gave_up : (cs : ByClientAct p w w') (x : Exec) (k' : Option Content) → IsRunning (w.client cs.c).phase → x ≡ (w.client cs.c).exec → cs.state.exec ≡ (w.client cs.c).exec → cs.state.phase ≡ Between → cs.sent ≡ Decide x Abandon k' ∷ [] → AbandonLock p.replicas w' x
+  gave_up : (cs : ByClientAct p w w') (x : Exec) (k' : Option Content) → IsRunning (w.client cs.c).phase → x ≡ (w.client cs.c).exec →
+      cs.state.exec ≡ (w.client cs.c).exec → cs.state.phase ≡ Between → cs.sent ≡ Decide x Abandon k' ∷ [] → AbandonLock p.replicas w' x
   gave_up cs x k' run e f g sent = All_shut (everyone p.replicas _ pos (λ r a b. Unsent (λ k t. unsent k (sent_before cs (Prepare x k) _ sent (λ z. cc) t)) (over_now cs x e (running_under_way _ run) f g)))
     where
       unsent : (k : Content) → WasSent w (Prepare x k) → ⊥
@@ -141,7 +148,10 @@ module _ (p : Plan) (pos : 0 < p.replicas) (w w' : World) (q : Reach p w) (commi
   open_prepared z k vs acs e = subst IsOpen (sym e) tt
 
   -- all voted Commit, and the client proposed nothing
-  fast : (cs : ByClientAct p w w') (x : Exec) (k' : Option Content) (k : Content) (vs : List CountedVote) (acs : List ℕ) → (w.client cs.c).phase ≡ Prepared k vs None acs → p.replicas ≤ count_votes is_commit_vote vs → x ≡ (w.client cs.c).exec → cs.state.exec ≡ (w.client cs.c).exec → cs.state.phase ≡ Between → cs.sent ≡ Decide x ToCommit k' ∷ [] → CommitLock p.replicas w' x × Quorum p.replicas (VotedCommit w' x)
+  fast : (cs : ByClientAct p w w') (x : Exec) (k' : Option Content) (k : Content) (vs : List CountedVote) (acs : List ℕ) →
+      (w.client cs.c).phase ≡ Prepared k vs None acs → p.replicas ≤ count_votes is_commit_vote vs → x ≡ (w.client cs.c).exec →
+      cs.state.exec ≡ (w.client cs.c).exec → cs.state.phase ≡ Between → cs.sent ≡ Decide x ToCommit k' ∷ [] →
+      CommitLock p.replicas w' x × Quorum p.replicas (VotedCommit w' x)
   fast cs x k' k vs acs ph l e f g sent = (Fast voted (decides_now cs x ToCommit k' e (prepared_under_way _ k vs None acs ph) sent) (λ d o t. unproposed d o (sent_before cs (Finalize x 0 d o) _ sent (λ z. cc) t)), everyone p.replicas _ pos voted)
     where
       voted : (r : ℕ) → 0 < r → r ≤ p.replicas → VotedCommit w' x r
@@ -155,14 +165,17 @@ module _ (p : Plan) (pos : 0 < p.replicas) (w w' : World) (q : Reach p w) (commi
           go (By_warden j z range a h i) = let v = warden_view p w q j x 0 a h in let y : 0 ≡ j + v.0 * p.wardens = v.1 in let l = range.0 in omega (arith, y, l)
 
   -- a quorum accepted the client's proposal
-  weighed : (cs : ByClientAct p w w') (x : Exec) (d : Choice) (k : Content) (vs : List CountedVote) (o : Option Choice) (acs : List ℕ) → (w.client cs.c).phase ≡ Prepared k vs o acs → o ≡ Some d → quorum p.replicas ≤ length acs → x ≡ (w.client cs.c).exec → Quorum p.replicas (HasAccepted w x 0 d) × WasSent w (Finalize x 0 d (content_for k d))
+  weighed : (cs : ByClientAct p w w') (x : Exec) (d : Choice) (k : Content) (vs : List CountedVote) (o : Option Choice) (acs : List ℕ) →
+      (w.client cs.c).phase ≡ Prepared k vs o acs → o ≡ Some d → quorum p.replicas ≤ length acs → x ≡ (w.client cs.c).exec →
+      Quorum p.replicas (HasAccepted w x 0 d) × WasSent w (Finalize x 0 d (content_for k d))
   weighed cs x d k vs o acs ph od l e =
       let ev = (evident_reach p pos w q cs.c).phase k vs o acs ph in
       let sent : WasSent w (Finalize x 0 d (content_for k d)) = subst (λ (z : Exec). WasSent w (Finalize z 0 d (content_for k d))) (sym e) (ev.proposed d od) in
       (accept_quorum p w q x 0 d (content_for k d) acs ev.accepters (λ j i. subst (λ (z : Exec). ((0 < j) × (j ≤ p.replicas)) × AcceptedFact (w.replica j) z 0) (sym e) (ev.accept j i)) l sent, sent)
 
   -- a quorum accepted the warden's proposal
-  round_decided : (ws : ByWardenAct p w w') (x : Exec) (d : Choice) (o : Option Content) → DecidedRound p.replicas ws.state x d o → (v : ℕ) × (o : Option Content) × Quorum p.replicas (HasAccepted w' x v d) × WasSent w' (Finalize x v d o)
+  round_decided : (ws : ByWardenAct p w w') (x : Exec) (d : Choice) (o : Option Content) → DecidedRound p.replicas ws.state x d o →
+      (v : ℕ) × (o : Option Content) × Quorum p.replicas (HasAccepted w' x v d) × WasSent w' (Finalize x v d o)
   round_decided ws x d o r =
       let here : IsIn r.0 (w'.warden ws.k).rounds = subst (λ (h : ℕ → WardenState). IsIn r.0 (h ws.k).rounds) (sym ws.warden) (subst (λ (z : WardenState). IsIn r.0 z.rounds) (sym (at_same ws.k ws.state w.warden)) r.1) in
       let ev = (ward_reach p pos w' next ws.k).round r.0 here in
@@ -192,7 +205,8 @@ module _ (p : Plan) (pos : 0 < p.replicas) (w w' : World) (q : Reach p w) (commi
       more : Quorum p.replicas (VotedCommit w x) → Quorum p.replicas (VotedCommit w' x)
       more a = quorum_map p.replicas _ _ (λ r h. voted_grows p w w' st x Commit r h) a
 
-      client : (cs : ByClientAct p w w') → DecisionOf p.replicas (w.client cs.c) cs.state cs.sent x ToCommit → CommitLock p.replicas w' x × Quorum p.replicas (VotedCommit w' x)
+      client : (cs : ByClientAct p w w') → DecisionOf p.replicas (w.client cs.c) cs.state cs.sent x ToCommit →
+          CommitLock p.replicas w' x × Quorum p.replicas (VotedCommit w' x)
       client cs (Weighed k vs u acs ph (All_commit a b c) e f g k' z) = fast cs x k' k vs acs (subst (λ (y : Option Choice). (w.client cs.c).phase ≡ Prepared k vs y acs) a ph) c e f g z
       client cs (Weighed k vs u acs ph (One_final a b c) e f g k' z) = cc
       client cs (Weighed k vs u acs ph (By_quorum a b) e f g k' z) = let h = weighed cs x ToCommit k vs u acs ph a b e in (commit_lock_stays p w w' q st x (Accepted_commit 0 h.0), more (s.proposals.commit x 0 _ h.1))

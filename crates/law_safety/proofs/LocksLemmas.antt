@@ -32,7 +32,8 @@ taking_grows F g h m f = go (takes h m.body)
     go true = g h m f
     go false = f
 
-pub replica_grows : (p : Plan) (w w' : World) → Step p w w' → (F : Handled → Type 0) → ((h : Handled) (m : Envelope) → F h → F (m ∷ h)) → (r : ℕ) → F (w.replica r) → F (w'.replica r)
+pub replica_grows : (p : Plan) (w w' : World) → Step p w w' → (F : Handled → Type 0) → ((h : Handled) (m : Envelope) → F h → F (m ∷ h)) → (r : ℕ) →
+    F (w.replica r) → F (w'.replica r)
 replica_grows p w w' st F g = replica_in_step p w w' st (λ r h. F h) (λ s. taking_grows F g (w.replica s.r) s.m)
 
 pub voted_grows : (p : Plan) (w w' : World) → Step p w w' → (x : Exec) (v : Vote) (r : ℕ) → vote (w.replica r) x ≡ Some v → vote (w'.replica r) x ≡ Some v
@@ -48,7 +49,8 @@ pub quorum_map : (n : ℕ) (P Q : ℕ → Type 0) → ((r : ℕ) → P r → Q r
 quorum_map n P Q f q = record { members = q.members; distinct = q.distinct; ranged = q.ranged; each = λ r i. f r (q.each r i); many = q.many }
 
 -- what was accepted was proposed
-pub accepted_sent : (p : Plan) (w : World) → Reach p w → (x : Exec) (v : ℕ) (d : Choice) (r : ℕ) → HasAccepted w x v d r → (o : Option Content) × WasSent w (Finalize x v d o)
+pub accepted_sent : (p : Plan) (w : World) → Reach p w → (x : Exec) (v : ℕ) (d : Choice) (r : ℕ) → HasAccepted w x v d r →
+    (o : Option Content) × WasSent w (Finalize x v d o)
 accepted_sent p w q x v d r h = let t = acceptance_taken (w.replica r) h.0 h.1 in let m = (took_reach p w q).took r t.0 t.1 in
     (h.0.content, record { envelope = t.0; there = m.0; body = t.2 ∙ same h.0 h.2 h.3 h.4 })
   where
@@ -67,16 +69,20 @@ cast_prepare (m ∷ h) c i = elim (IsIn-cases c (new_cast h (casts h) m.body) (c
     new (Prepare z k) j = let g = IsIn-one_when _ _ c j in rw g.1 refl
     new _ j = absurd j
 
-pub cast_found : (x : Exec) (cs : List Cast) (v : Vote) → option_map (λ (y : Cast). y.vote) (cast_on x cs) ≡ Some v → (c : Cast) × IsIn c cs × (c.exec ≡ x) × (c.vote ≡ v)
+pub cast_found : (x : Exec) (cs : List Cast) (v : Vote) → option_map (λ (y : Cast). y.vote) (cast_on x cs) ≡ Some v →
+    (c : Cast) × IsIn c cs × (c.exec ≡ x) × (c.vote ≡ v)
 cast_found x [] v e = cc
 cast_found x (c ∷ cs) v e = go (λ f. cast_found x cs v f) (same_exec x c.exec) (same_exec_tells x c.exec) e
   where
-    go : (option_map (λ (y : Cast). y.vote) (cast_on x cs) ≡ Some v → (c : Cast) × IsIn c cs × (c.exec ≡ x) × (c.vote ≡ v)) → (t : Bool) → ((t ≡ true) × (x ≡ c.exec)) ⊎ ((t ≡ false) × (x ≢ c.exec)) → option_map (λ (y : Cast). y.vote) (cond t (Some c) (cast_on x cs)) ≡ Some v → (d : Cast) × IsIn d (c ∷ cs) × (d.exec ≡ x) × (d.vote ≡ v)
+    go : (option_map (λ (y : Cast). y.vote) (cast_on x cs) ≡ Some v → (c : Cast) × IsIn c cs × (c.exec ≡ x) × (c.vote ≡ v)) → (t : Bool) →
+        ((t ≡ true) × (x ≡ c.exec)) ⊎ ((t ≡ false) × (x ≢ c.exec)) → option_map (λ (y : Cast). y.vote) (cond t (Some c) (cast_on x cs)) ≡ Some v →
+        (d : Cast) × IsIn d (c ∷ cs) × (d.exec ≡ x) × (d.vote ≡ v)
     go ih true (inl p) e = (c, inl refl, sym p.1, cc)
     go ih true (inr p) e = cc
     go ih false p e = let k = ih e in (k.0, inr k.1, k.2, k.3)
 
-pub voted_prepared : (p : Plan) (w : World) → Reach p w → (x : Exec) (v : Vote) (r : ℕ) → vote (w.replica r) x ≡ Some v → (k : Content) × WasSent w (Prepare x k)
+pub voted_prepared : (p : Plan) (w : World) → Reach p w → (x : Exec) (v : Vote) (r : ℕ) → vote (w.replica r) x ≡ Some v →
+    (k : Content) × WasSent w (Prepare x k)
 voted_prepared p w q x v r e =
     let c = cast_found x (casts (w.replica r)) v e in
     let m = cast_prepare (w.replica r) c.0 c.1 in
@@ -97,14 +103,16 @@ Closed n w x u d = Quorum n (λ r. (u < promised (w.replica r) x) × ((c : Choic
 -- the invariants on proposals
 pub record Proposals (n : ℕ) (w : World) : Type 0 where
   pub commit : (x : Exec) (v : ℕ) (o : Option Content) → WasSent w (Finalize x v ToCommit o) → Quorum n (VotedCommit w x)
-  pub abandon : (x : Exec) (v : ℕ) (o : Option Content) → WasSent w (Finalize x v Abandon o) → ((u : Option Content) × WasSent w (Finalize x 0 Abandon u)) ⊎ ((r : ℕ) × (0 < r) × (r ≤ n) × Shut w x r)
+  pub abandon : (x : Exec) (v : ℕ) (o : Option Content) → WasSent w (Finalize x v Abandon o) →
+      ((u : Option Content) × WasSent w (Finalize x 0 Abandon u)) ⊎ ((r : ℕ) × (0 < r) × (r ≤ n) × Shut w x r)
   pub below : (x : Exec) (v : ℕ) (d : Choice) (o : Option Content) → WasSent w (Finalize x v d o) → (u : ℕ) → u < v → Closed n w x u d
 
 one_of : (n : ℕ) (P : ℕ → Type 0) → Quorum n P → (r : ℕ) × P r
 one_of n P q = let m = quorums_meet n P P q q in (m.0, m.1)
 
 -- views: what a quorum accepted, every proposal of a higher view carries
-pub carried : (p : Plan) (w : World) → Proposals p.replicas w → (x : Exec) (v u : ℕ) (d c : Choice) (o : Option Content) → Quorum p.replicas (HasAccepted w x u c) → WasSent w (Finalize x v d o) → u < v → c ≡ d
+pub carried : (p : Plan) (w : World) → Proposals p.replicas w → (x : Exec) (v u : ℕ) (d c : Choice) (o : Option Content) →
+    Quorum p.replicas (HasAccepted w x u c) → WasSent w (Finalize x v d o) → u < v → c ≡ d
 carried p w t x v u d c o q s l = let m = quorums_meet p.replicas _ _ q (t.below x v d o s u l) in m.2.1 c m.1
 
 -- the two are never locked both

@@ -42,7 +42,8 @@ use Rattle.law_safety.proofs.OneProposal.{one_reach}
 use Rattle.law_safety.proofs.LocksLemmas.{sent_grows, Closed, replica_grows, voted_grows, accepted_grows, quorum_map, cast_prepare}
 
 -- what a client decided stays
-pub decision_grows : (p : Plan) (w w' : World) → Step p w w' → (c : ℕ) (x : Exec) (d : Choice) → IsIn (record { exec = x; choice = d }) (w.client c).decisions → IsIn (record { exec = x; choice = d }) (w'.client c).decisions
+pub decision_grows : (p : Plan) (w w' : World) → Step p w w' → (c : ℕ) (x : Exec) (d : Choice) →
+    IsIn (record { exec = x; choice = d }) (w.client c).decisions → IsIn (record { exec = x; choice = d }) (w'.client c).decisions
 decision_grows p w w' st c x d = client_in_step p w w' st (λ c s. IsIn (record { exec = x; choice = d }) s.decisions)
     (λ s. said_stays (rules p s.c) (GotAt w s.c) (w.client s.c) s.state s.sent s.act (Decide x d None)) c
 
@@ -55,7 +56,8 @@ not_over x s e b (inl h) = earlier_itself s.exec (subst (λ z. IsEarlier z s.exe
 not_over x s e b (inr h) = b h.1
 
 -- of what is over nothing is prepared any more, and nothing proposed by the client
-pub no_prepare : (p : Plan) (w w' : World) → Reach p w → Step p w w' → (x : Exec) → Over x (w.client x.ver.client) → (k : Content) → WasSent w' (Prepare x k) → WasSent w (Prepare x k)
+pub no_prepare : (p : Plan) (w w' : World) → Reach p w → Step p w w' → (x : Exec) → Over x (w.client x.ver.client) → (k : Content) →
+    WasSent w' (Prepare x k) → WasSent w (Prepare x k)
 no_prepare p w w' q s x o k t = go (origin p w w' q s (Prepare x k) t)
   where
     go : Origin p w w' (Prepare x k) → WasSent w (Prepare x k)
@@ -66,7 +68,8 @@ no_prepare p w w' q s x o k t = go (origin p w w' q s (Prepare x k) t)
         let mine : x.ver.client ≡ s.c = rw n.0 ((rec_reach p w q s.c).own (running_under_way _ n.1)) in
         absurd (not_over x (w.client s.c) n.0 (running_between _ n.1) (subst (λ z. Over x (w.client z)) mine o))
 
-pub no_finalize : (p : Plan) (w w' : World) → Reach p w → Step p w w' → (x : Exec) → Over x (w.client x.ver.client) → (d : Choice) (u : Option Content) → WasSent w' (Finalize x 0 d u) → WasSent w (Finalize x 0 d u)
+pub no_finalize : (p : Plan) (w w' : World) → Reach p w → Step p w w' → (x : Exec) → Over x (w.client x.ver.client) → (d : Choice) (u : Option Content) →
+    WasSent w' (Finalize x 0 d u) → WasSent w (Finalize x 0 d u)
 no_finalize p w w' q s x o d u t = go (origin p w w' q s (Finalize x 0 d u) t)
   where
     go : Origin p w w' (Finalize x 0 d u) → WasSent w (Finalize x 0 d u)
@@ -82,7 +85,8 @@ unfolding may_vote
 may_vote_undecided h old z e = and_right (is_none (cast_on z old)) _ (and_right (promised h z == 0) _ e)
 
 -- a vote that was not there and is not cast is not there
-taking_cases_vote : (h : Handled) (m : Envelope) (x : Exec) → (vote h x ≢ Some Commit) → (takes h m.body ≡ true → vote (m ∷ h) x ≡ Some Commit → ⊥) → vote (after_taking h m) x ≢ Some Commit
+taking_cases_vote : (h : Handled) (m : Envelope) (x : Exec) → (vote h x ≢ Some Commit) → (takes h m.body ≡ true → vote (m ∷ h) x ≡ Some Commit → ⊥) →
+    vote (after_taking h m) x ≢ Some Commit
 unfolding after_taking
 taking_cases_vote h m x n c = go (takes h m.body) refl
   where
@@ -105,7 +109,9 @@ pub cast_sent : (p : Plan) (w : World) → Reach p w → (r : ℕ) (c : Cast) �
 cast_sent p w q r c i = let m = cast_prepare (w.replica r) c i in record { envelope = m.0; there = ((took_reach p w q).took r m.0 m.1).0; body = m.2 }
 
 -- who voted Commit on something committed in conflict with x, and not on x, does not vote Commit on x
-not_voted : (p : Plan) (w w' : World) → Reach p w → Step p w w' → CommitGround w → (x : Exec) (r : ℕ) (k : Content) → WasSent w (Prepare x k) → (c : Cast) → IsIn c (casts (w.replica r)) → c.vote ≡ Commit → conflicts x.ver k c.exec.ver c.content ≡ true → (o : Option Content) → WasSent w (Decide c.exec ToCommit o)
+not_voted : (p : Plan) (w w' : World) → Reach p w → Step p w w' → CommitGround w → (x : Exec) (r : ℕ) (k : Content) → WasSent w (Prepare x k) → (c : Cast) →
+    IsIn c (casts (w.replica r)) → c.vote ≡ Commit → conflicts x.ver k c.exec.ver c.content ≡ true → (o : Option Content) →
+    WasSent w (Decide c.exec ToCommit o)
     → vote (w.replica r) x ≢ Some Commit → vote (w'.replica r) x ≢ Some Commit
 not_voted p w w' q st a x r k t c i v f o d n = replica_in_step p w w' st (λ j h. j ≡ r → vote h x ≢ Some Commit) (λ s z. taken s) r (λ z. n) refl
   where
@@ -145,7 +151,8 @@ shut_stays p w w' q s a x r (Unsent n o) = Unsent (λ k t. n k (no_prepare p w w
 shut_stays p w w' q s a x r (Conflicting n k t c i v f o d) = Conflicting (not_voted p w w' q s a x r k t c i v f o d n) k (sent_grows p w w' s _ t) c
     (replica_grows p w w' s (λ h. IsIn c (casts h)) (λ h m j. IsIn-right c (new_cast h (casts h) m.body) (casts h) j) r i) v f o (sent_grows p w w' s _ d)
 
-pub abandon_lock_stays : (p : Plan) (w w' : World) → Reach p w → Step p w w' → CommitGround w → (x : Exec) → AbandonLock p.replicas w x → AbandonLock p.replicas w' x
+pub abandon_lock_stays : (p : Plan) (w w' : World) → Reach p w → Step p w w' → CommitGround w → (x : Exec) → AbandonLock p.replicas w x →
+    AbandonLock p.replicas w' x
 abandon_lock_stays p w w' q s c x (Accepted_abandon v a) = Accepted_abandon v (quorum_map _ _ _ (λ r h. accepted_grows p w w' s x v Abandon r h) a)
 abandon_lock_stays p w w' q s c x (All_shut a) = All_shut (quorum_map _ _ _ (λ r h. shut_stays p w w' q s c x r h) a)
 
@@ -156,7 +163,9 @@ commit_lock_stays p w w' q s x (Fast all decides none) =
     (λ d o t. none d o (no_finalize p w w' q s x ((rec_reach p w q x.ver.client).done (record { exec = x; choice = ToCommit }) decides).1 d o t))
 
 -- a view that is promised is past: nothing more is accepted in it
-closed_cons : (x : Exec) (u : ℕ) (d : Choice) (h : Handled) (m : Envelope) → (u < promised h x) × ((c : Choice) → (a : Acceptance) × IsIn a (acceptances h) × (a.exec ≡ x) × (a.view ≡ u) × (a.choice ≡ c) → c ≡ d) → (u < promised (m ∷ h) x) × ((c : Choice) → (a : Acceptance) × IsIn a (acceptances (m ∷ h)) × (a.exec ≡ x) × (a.view ≡ u) × (a.choice ≡ c) → c ≡ d)
+closed_cons : (x : Exec) (u : ℕ) (d : Choice) (h : Handled) (m : Envelope) →
+    (u < promised h x) × ((c : Choice) → (a : Acceptance) × IsIn a (acceptances h) × (a.exec ≡ x) × (a.view ≡ u) × (a.choice ≡ c) → c ≡ d) →
+    (u < promised (m ∷ h) x) × ((c : Choice) → (a : Acceptance) × IsIn a (acceptances (m ∷ h)) × (a.exec ≡ x) × (a.view ≡ u) × (a.choice ≡ c) → c ≡ d)
 closed_cons x u d h m f = (
   (let g = promised_grows h m x in let l = f.0 in omega (arith, g, l)),
   λ c a. elim (IsIn-cases a.0 (new_acceptance h m.body) (acceptances h) a.1) [

@@ -12,7 +12,8 @@ use Rattle.law_safety.proofs.CommitIsSent.{committed_sent}
 use Rattle.law_safety.proofs.InvariantHolds.{both_reach, conflict_locks}
 
 module _ (p : Plan) (pos : 0 < p.replicas) where
-  apart : (w : World) (q : Reach p w) → (x y : Exec) (k l : Content) → CommitSent w x → CommitSent w y → WasSent w (Prepare x k) → WasSent w (Prepare y l) → conflicts x.ver k y.ver l ≡ false
+  apart : (w : World) (q : Reach p w) → (x y : Exec) (k l : Content) → CommitSent w x → CommitSent w y → WasSent w (Prepare x k) → WasSent w (Prepare y l) →
+      conflicts x.ver k y.ver l ≡ false
   apart w q x y k l a b t u = go (conflicts x.ver k y.ver l) refl
     where
       go : (z : Bool) → conflicts x.ver k y.ver l ≡ z → z ≡ false

@@ -43,7 +43,8 @@ told_content_from : (ts : List ToldAnswer) (k : Content) → told_content ts ≡
 told_content_from [] k e = cc
 told_content_from (t ∷ ts) k e = go (told_content_from ts k) t.content refl e
   where
-    go : (told_content ts ≡ Some k → (t : ToldAnswer) × IsIn t ts × (t.content ≡ Some k)) → (o : Option Content) → t.content ≡ o → option_or o (told_content ts) ≡ Some k → (u : ToldAnswer) × IsIn u (t ∷ ts) × (u.content ≡ Some k)
+    go : (told_content ts ≡ Some k → (t : ToldAnswer) × IsIn t ts × (t.content ≡ Some k)) → (o : Option Content) → t.content ≡ o →
+        option_or o (told_content ts) ≡ Some k → (u : ToldAnswer) × IsIn u (t ∷ ts) × (u.content ≡ Some k)
     go ih (Some c) f e = (t, inl refl, f ∙ e)
     go ih None f e = let m = ih e in (m.0, inr m.1, m.2)
 
@@ -85,7 +86,8 @@ module _ (p : Plan) (pos : 0 < p.replicas) (w w' : World) (q : Reach p w) (st : 
       not_quiet (Fenced v b cs vs) h z = z
       not_quiet _ h z = h
 
-      ev : (l : Content) (vs : List CountedVote) (o : Option Choice) (acs : List ℕ) → (w.client cs.c).phase ≡ Prepared l vs o acs → WasSent w' (Prepare (w.client cs.c).exec l)
+      ev : (l : Content) (vs : List CountedVote) (o : Option Choice) (acs : List ℕ) → (w.client cs.c).phase ≡ Prepared l vs o acs →
+          WasSent w' (Prepare (w.client cs.c).exec l)
       ev l vs o acs a = grown _ l ((evident_reach p pos w q cs.c).phase l vs o acs a).prepare
 
       go : ClientAct (rules p cs.c) (GotAt w cs.c) (w.client cs.c) cs.state cs.sent → WasSent w' (Prepare x k)
@@ -100,7 +102,8 @@ module _ (p : Plan) (pos : 0 < p.replicas) (w w' : World) (q : Reach p w) (st : 
       go (Learns act) = absurd (in_none cs.sent b act.silent i)
 
   -- what a warden's round proposes
-  round_content : (ws : ByWardenAct p w w') (a : Round) → IsIn a (w'.warden ws.k).rounds → (d : Choice) (k : Content) → a.proposal ≡ Some (record { choice = d; content = Some k }) → WasSent w' (Prepare a.exec k)
+  round_content : (ws : ByWardenAct p w w') (a : Round) → IsIn a (w'.warden ws.k).rounds → (d : Choice) (k : Content) →
+      a.proposal ≡ Some (record { choice = d; content = Some k }) → WasSent w' (Prepare a.exec k)
   round_content ws a i d k e =
       let ev = (ward_reach p pos w' (Next w w' q st) ws.k).round a i in
       let f = ev.fixed (record { choice = d; content = Some k }) e in
@@ -111,7 +114,8 @@ module _ (p : Plan) (pos : 0 < p.replicas) (w w' : World) (q : Reach p w) (st : 
   proposal_is : (y : Proposal) (d : Choice) (k : Content) → y.choice ≡ d → y.content ≡ Some k → Some y ≡ Some (record { choice = d; content = Some k })
   proposal_is y d k e f = rw (← e, ← f)
 
-  warden_content : (ws : ByWardenAct p w w') (a : Parcel) (b : Body) (x : Exec) (k : Content) → IsIn a ws.sent → b ≡ parcel_body a → WFact p.wardens ws.k (w'.warden ws.k) b → HasContent b x k → WasSent w' (Prepare x k)
+  warden_content : (ws : ByWardenAct p w w') (a : Parcel) (b : Body) (x : Exec) (k : Content) → IsIn a ws.sent → b ≡ parcel_body a →
+      WFact p.wardens ws.k (w'.warden ws.k) b → HasContent b x k → WasSent w' (Prepare x k)
   warden_content ws a (Finalize y v d o) x k i z f h = let g = round_found y v (w'.warden ws.k).rounds f.1.0 f.1.1 in
       subst (λ u. WasSent w' (Prepare u k)) (g.1 ∙ h.0) (round_content ws f.1.0 g.0 d k (f.1.2 ∙ ap (λ (u : Option Content). Some (record { choice = d; content = u })) h.1))
   warden_content ws a (Decide y d o) x k i z f h = let r = ward_decided (warden_rules p ws.k) (HeardAt w ws.k) (w.warden ws.k) ws.state ws.sent ws.act a y d o i z in

@@ -31,7 +31,8 @@ use Rattle.law_safety.proofs.InvariantHolds.{safe_reach}
 use Rattle.law_safety.proofs.CommitIsSent.{committed_sent}
 
 -- a Prepare of client c that was sent in a step is of the execution under way
-prepares_act : (r : Rules) (Got : NodeId → Body → Type 0) (s s' : ClientState) (sent : List Body) → ClientAct r Got s s' sent → (x : Exec) (k : Content) → IsIn (Prepare x k) sent → (x ≡ s.exec) × IsRunning s.phase × (s'.exec ≡ s.exec)
+prepares_act : (r : Rules) (Got : NodeId → Body → Type 0) (s s' : ClientState) (sent : List Body) → ClientAct r Got s s' sent → (x : Exec) (k : Content) →
+    IsIn (Prepare x k) sent → (x ≡ s.exec) × IsRunning s.phase × (s'.exec ≡ s.exec)
 prepares_act r Got s s' sent (Quiet act) x k i = absurd (quiet_not sent _ (λ z. z) act.quiet i)
 prepares_act r Got s s' sent (Advances act) x k i = absurd (in_none sent _ act.silent i)
 prepares_act r Got s s' sent (Prepares act) x k i = let z = in_single sent _ _ act.sends i in let y : x ≡ s.exec = cc in (y, act.running, act.exec)
@@ -46,7 +47,8 @@ fresh : (p : Plan) (w w' : World) → Reach p w → Step p w w' → (x : Exec) (
     → WasSent w (Prepare x k) ⊎ ((x ≡ (w.client x.ver.client).exec) × IsRunning (w.client x.ver.client).phase × ((w'.client x.ver.client).exec ≡ (w.client x.ver.client).exec))
 fresh p w w' q st x k t = go (origin p w w' q st _ t)
   where
-    go : Origin p w w' (Prepare x k) → WasSent w (Prepare x k) ⊎ ((x ≡ (w.client x.ver.client).exec) × IsRunning (w.client x.ver.client).phase × ((w'.client x.ver.client).exec ≡ (w.client x.ver.client).exec))
+    go : Origin p w w' (Prepare x k) →
+        WasSent w (Prepare x k) ⊎ ((x ≡ (w.client x.ver.client).exec) × IsRunning (w.client x.ver.client).phase × ((w'.client x.ver.client).exec ≡ (w.client x.ver.client).exec))
     go (Old z) = inl z
     go (Of_replica r f) = absurd f
     go (Of_warden ws a i e f) = absurd f
@@ -57,7 +59,8 @@ fresh p w w' q st x k t = go (origin p w w' q st _ t)
         inr (subst (λ j. (x ≡ (w.client j).exec) × IsRunning (w.client j).phase × ((w'.client j).exec ≡ (w.client j).exec)) (sym mine) (a.0, a.1, after))
 
 -- what was prepared is not after the execution under way
-prepared_old : (p : Plan) (w : World) → Reach p w → (x : Exec) (k : Content) → WasSent w (Prepare x k) → IsEarlier x (w.client x.ver.client).exec ⊎ (x ≡ (w.client x.ver.client).exec)
+prepared_old : (p : Plan) (w : World) → Reach p w → (x : Exec) (k : Content) → WasSent w (Prepare x k) →
+    IsEarlier x (w.client x.ver.client).exec ⊎ (x ≡ (w.client x.ver.client).exec)
 prepared_old p w q x k t = go (prepare_from p w q t.envelope x k t.there t.body).1
   where
     go : At (HasPrepared k) x (w.client x.ver.client) → IsEarlier x (w.client x.ver.client).exec ⊎ (x ≡ (w.client x.ver.client).exec)
@@ -67,8 +70,11 @@ prepared_old p w q x k t = go (prepare_from p w q t.envelope x k t.there t.body)
 
 -- of one client: what was prepared and is not the present execution was abandoned before the next of its transaction
 pub record Single (w : World) (c : ℕ) : Type 0 where
-  pub past : (x : Exec) (k : Content) → WasSent w (Prepare x k) → x.ver.client ≡ c → IsEarlier x (w.client c).exec → (a : Attempt) → IsIn a (w.client c).attempts → a.ver ≡ x.ver → a.txn ≡ (w.client c).begun → IsIn (record { exec = x; choice = Abandon }) (w.client c).decisions
-  pub pairs : (x y : Exec) (k l : Content) → WasSent w (Prepare x k) → WasSent w (Prepare y l) → x.ver.client ≡ c → y.ver.client ≡ c → IsEarlier x y → (a b : Attempt) → IsIn a (w.client c).attempts → IsIn b (w.client c).attempts → a.ver ≡ x.ver → b.ver ≡ y.ver → a.txn ≡ b.txn → IsIn (record { exec = x; choice = Abandon }) (w.client c).decisions
+  pub past : (x : Exec) (k : Content) → WasSent w (Prepare x k) → x.ver.client ≡ c → IsEarlier x (w.client c).exec → (a : Attempt) →
+      IsIn a (w.client c).attempts → a.ver ≡ x.ver → a.txn ≡ (w.client c).begun → IsIn (record { exec = x; choice = Abandon }) (w.client c).decisions
+  pub pairs : (x y : Exec) (k l : Content) → WasSent w (Prepare x k) → WasSent w (Prepare y l) → x.ver.client ≡ c → y.ver.client ≡ c → IsEarlier x y →
+      (a b : Attempt) → IsIn a (w.client c).attempts → IsIn b (w.client c).attempts → a.ver ≡ x.ver → b.ver ≡ y.ver → a.txn ≡ b.txn →
+      IsIn (record { exec = x; choice = Abandon }) (w.client c).decisions
   pub has : (x : Exec) (k : Content) → WasSent w (Prepare x k) → x.ver.client ≡ c → (a : Attempt) × IsIn a (w.client c).attempts × (a.ver ≡ x.ver)
 
 module _ (p : Plan) (w w' : World) (q : Reach p w) (st : Step p w w') (c : ℕ) where
@@ -106,17 +112,20 @@ module _ (p : Plan) (w w' : World) (q : Reach p w) (st : Step p w w') (c : ℕ) 
       go (inr (Next_exec v b a m k run)) = subst (λ l. IsIn d l) (sym a) i
       go (inr (Next_try z l a m k run)) = subst (λ l. IsIn d l) (sym a) (inr i)
 
-  was_attempt : (a : Attempt) → IsIn a (w'.client c).attempts → IsIn a (w.client c).attempts ⊎ (((w.client c).phase ≡ Between) × ((w.client c).exec.ver.ts < a.ver.ts))
+  was_attempt : (a : Attempt) → IsIn a (w'.client c).attempts →
+      IsIn a (w.client c).attempts ⊎ (((w.client c).phase ≡ Between) × ((w.client c).exec.ver.ts < a.ver.ts))
   was_attempt d i = go (client_tries p w w' st c)
     where
-      go : (w'.client c ≡ w.client c) ⊎ TryStep (w.client c) (w'.client c) → IsIn d (w.client c).attempts ⊎ (((w.client c).phase ≡ Between) × ((w.client c).exec.ver.ts < d.ver.ts))
+      go : (w'.client c ≡ w.client c) ⊎ TryStep (w.client c) (w'.client c) →
+          IsIn d (w.client c).attempts ⊎ (((w.client c).phase ≡ Between) × ((w.client c).exec.ver.ts < d.ver.ts))
       go (inl e) = inl (subst (λ (z : ClientState). IsIn d z.attempts) e i)
       go (inr (Keeps e b a m k u)) = inl (subst (λ l. IsIn d l) a i)
       go (inr (Next_exec v b a m k run)) = inl (subst (λ l. IsIn d l) a i)
       go (inr (Next_try z l a m k run)) = elim (subst (λ l. IsIn d l) a i) [ inl y ↦ inr (z, let f = ap (λ (x : Attempt). x.ver.ts) y in omega (arith, f, l)) | inr j ↦ inl j ]
 
   -- the attempt of what was prepared, or is running, was there before
-  attempt_of : (x : Exec) (a : Attempt) → (IsEarlier x (w.client c).exec ⊎ (x ≡ (w.client c).exec)) → a.ver ≡ x.ver → IsIn a (w'.client c).attempts → IsIn a (w.client c).attempts
+  attempt_of : (x : Exec) (a : Attempt) → (IsEarlier x (w.client c).exec ⊎ (x ≡ (w.client c).exec)) → a.ver ≡ x.ver → IsIn a (w'.client c).attempts →
+      IsIn a (w.client c).attempts
   attempt_of x a o e i = elim (was_attempt a i) [
     | inl z ↦ z
     | inr z ↦ let f = ap (λ (v : Version). v.ts) e in let l = z.1 in let m : x.ver.ts ≤ (w.client c).exec.ver.ts = low o in absurd (omega (arith, f, l, m))
@@ -148,10 +157,12 @@ module _ (p : Plan) (w w' : World) (q : Reach p w) (st : Step p w w') (c : ℕ) 
         let h = (prepare_from p w q t.envelope x k t.there t.body).1 in
         not_at (HasPrepared k) x (w.client c) f (running_between _ run) (running_prepared k _ run) (subst (λ j. At (HasPrepared k) x (w.client j)) e h)
 
-    past_step : (x : Exec) (k : Content) → WasSent w' (Prepare x k) → x.ver.client ≡ c → IsEarlier x (w'.client c).exec → (a : Attempt) → IsIn a (w'.client c).attempts → a.ver ≡ x.ver → a.txn ≡ (w'.client c).begun → IsIn (record { exec = x; choice = Abandon }) (w'.client c).decisions
+    past_step : (x : Exec) (k : Content) → WasSent w' (Prepare x k) → x.ver.client ≡ c → IsEarlier x (w'.client c).exec → (a : Attempt) →
+        IsIn a (w'.client c).attempts → a.ver ≡ x.ver → a.txn ≡ (w'.client c).begun → IsIn (record { exec = x; choice = Abandon }) (w'.client c).decisions
     past_step x k t e before a i v n = new (fresh_at x k e t)
       where
-        go : (t : WasSent w (Prepare x k)) → IsIn a (w.client c).attempts → IsEarlier x (w.client c).exec ⊎ (x ≡ (w.client c).exec) → (w'.client c ≡ w.client c) ⊎ TryStep (w.client c) (w'.client c) → IsIn (record { exec = x; choice = Abandon }) (w'.client c).decisions
+        go : (t : WasSent w (Prepare x k)) → IsIn a (w.client c).attempts → IsEarlier x (w.client c).exec ⊎ (x ≡ (w.client c).exec) →
+            (w'.client c ≡ w.client c) ⊎ TryStep (w.client c) (w'.client c) → IsIn (record { exec = x; choice = Abandon }) (w'.client c).decisions
         go t j (inl o) (inl z) = kept _ (s.past x k t e o a j v (n ∙ ap (λ (y : ClientState). y.begun) z))
         go t j (inr o) (inl z) = absurd (earlier_not x o (subst (λ (y : ClientState). IsEarlier x y.exec) z before))
         go t j (inl o) (inr (Keeps f b d m g u)) = kept _ (s.past x k t e o a j v (n ∙ b))
@@ -167,7 +178,9 @@ module _ (p : Plan) (w w' : World) (q : Reach p w) (st : Step p w w') (c : ℕ) 
         new (inl t) = go t (attempt_of x a (old_at x k e t) v i) (old_at x k e t) (client_tries p w w' st c)
         new (inr z) = absurd (earlier_not x z.0 (subst (λ y. IsEarlier x y) z.2 before))
 
-    pairs_step : (x y : Exec) (k l : Content) → WasSent w' (Prepare x k) → WasSent w' (Prepare y l) → x.ver.client ≡ c → y.ver.client ≡ c → IsEarlier x y → (a b : Attempt) → IsIn a (w'.client c).attempts → IsIn b (w'.client c).attempts → a.ver ≡ x.ver → b.ver ≡ y.ver → a.txn ≡ b.txn → IsIn (record { exec = x; choice = Abandon }) (w'.client c).decisions
+    pairs_step : (x y : Exec) (k l : Content) → WasSent w' (Prepare x k) → WasSent w' (Prepare y l) → x.ver.client ≡ c → y.ver.client ≡ c → IsEarlier x y →
+        (a b : Attempt) → IsIn a (w'.client c).attempts → IsIn b (w'.client c).attempts → a.ver ≡ x.ver → b.ver ≡ y.ver → a.txn ≡ b.txn →
+        IsIn (record { exec = x; choice = Abandon }) (w'.client c).decisions
     pairs_step x y k l t u e f before a b i j v z n = go (fresh_at x k e t) (fresh_at y l f u)
       where
         go : WasSent w (Prepare x k) ⊎ IsNew x → WasSent w (Prepare y l) ⊎ IsNew y → IsIn (record { exec = x; choice = Abandon }) (w'.client c).decisions
@@ -192,7 +205,8 @@ module _ (p : Plan) (pos : 0 < p.replicas) (w : World) (q : Reach p w) where
   pub committed_prepared : (x : Exec) → CommitSent w x → (k : Content) × WasSent w (Prepare x k)
   committed_prepared x c = let v = ((safe_reach p pos w q).committed x c.0 c.1).1 in let m = quorums_meet p.replicas _ _ v v in voted_prepared p w q x Commit m.0 m.1
 
-  not_both : (x y : Exec) (a b : Attempt) → CommitSent w x → CommitSent w y → IsOf w x a → IsOf w y b → x.ver.client ≡ y.ver.client → a.txn ≡ b.txn → IsEarlier x y → ⊥
+  not_both : (x y : Exec) (a b : Attempt) → CommitSent w x → CommitSent w y → IsOf w x a → IsOf w y b → x.ver.client ≡ y.ver.client → a.txn ≡ b.txn →
+      IsEarlier x y → ⊥
   not_both x y a b c d i j e n before =
       let k = committed_prepared x c in let l = committed_prepared y d in
       let z = (single_reach p w q x.ver.client).pairs x y k.0 l.0 k.1 l.1 refl (sym e) before a b i.begun (subst (λ h. IsIn b (w.client h).attempts) (sym e) j.begun) i.version j.version n in

@@ -38,7 +38,8 @@ same_warden k k' i i' n a b e = go (cases i i')
 -- all Prepares of x carry one content, and all Finalizes of x in view 0 one choice
 pub record One (w : World) : Type 0 where
   pub prepare : (e f : Envelope) (x : Exec) (k l : Content) → IsIn e w.mail → IsIn f w.mail → e.body ≡ Prepare x k → f.body ≡ Prepare x l → k ≡ l
-  pub finalize : (e f : Envelope) (x : Exec) (d c : Choice) (o q : Option Content) → IsIn e w.mail → IsIn f w.mail → e.body ≡ Finalize x 0 d o → f.body ≡ Finalize x 0 c q → (d ≡ c) × (o ≡ q)
+  pub finalize : (e f : Envelope) (x : Exec) (d c : Choice) (o q : Option Content) → IsIn e w.mail → IsIn f w.mail → e.body ≡ Finalize x 0 d o →
+      f.body ≡ Finalize x 0 c q → (d ≡ c) × (o ≡ q)
 
 -- new mail without a Prepare and without a Finalize of view 0
 record Mute (sent : List Envelope) : Type 0 where
@@ -51,18 +52,21 @@ one_mute w w' sent m n t = record {
   finalize = λ e f x d c o q i j a b. fin e f x d c o q a b (IsIn-cases e w.mail sent (rw m at i)) (IsIn-cases f w.mail sent (rw m at j));
 }
   where
-    pre : (e f : Envelope) (x : Exec) (k l : Content) → e.body ≡ Prepare x k → f.body ≡ Prepare x l → IsIn e w.mail ⊎ IsIn e sent → IsIn f w.mail ⊎ IsIn f sent → k ≡ l
+    pre : (e f : Envelope) (x : Exec) (k l : Content) → e.body ≡ Prepare x k → f.body ≡ Prepare x l → IsIn e w.mail ⊎ IsIn e sent →
+        IsIn f w.mail ⊎ IsIn f sent → k ≡ l
     pre e f x k l a b (inl i) (inl j) = t.prepare e f x k l i j a b
     pre e f x k l a b (inr i) j = absurd (n.prepare e x k i a)
     pre e f x k l a b (inl i) (inr j) = absurd (n.prepare f x l j b)
 
-    fin : (e f : Envelope) (x : Exec) (d c : Choice) (o q : Option Content) → e.body ≡ Finalize x 0 d o → f.body ≡ Finalize x 0 c q → IsIn e w.mail ⊎ IsIn e sent → IsIn f w.mail ⊎ IsIn f sent → (d ≡ c) × (o ≡ q)
+    fin : (e f : Envelope) (x : Exec) (d c : Choice) (o q : Option Content) → e.body ≡ Finalize x 0 d o → f.body ≡ Finalize x 0 c q →
+        IsIn e w.mail ⊎ IsIn e sent → IsIn f w.mail ⊎ IsIn f sent → (d ≡ c) × (o ≡ q)
     fin e f x d c o q a b (inl i) (inl j) = t.finalize e f x d c o q i j a b
     fin e f x d c o q a b (inr i) j = absurd (n.finalize e x d o i a)
     fin e f x d c o q a b (inl i) (inr j) = absurd (n.finalize f x c q j b)
 
 -- the next world has the facts too
-replica_mute : (p : Plan) (w w' : World) → Reach p w' → (s : Step p w w') → (sent : List Envelope) → w'.mail ≡ w.mail ++ sent → (r : ℕ) → ((e : Envelope) → IsIn e sent → e.from ≡ Replica r) → Mute sent
+replica_mute : (p : Plan) (w w' : World) → Reach p w' → (s : Step p w w') → (sent : List Envelope) → w'.mail ≡ w.mail ++ sent → (r : ℕ) →
+    ((e : Envelope) → IsIn e sent → e.from ≡ Replica r) → Mute sent
 replica_mute p w w' q s sent m r from = record {
   prepare = λ e x k i b. subst (RFact r (w'.replica r)) b ((facts_reach p w' q).said e r (there e i) (from e i));
   finalize = λ e x d o i b. subst (RFact r (w'.replica r)) b ((facts_reach p w' q).said e r (there e i) (from e i));
@@ -71,7 +75,8 @@ replica_mute p w w' q s sent m r from = record {
     there : (e : Envelope) → IsIn e sent → IsIn e w'.mail
     there e i = rw m (IsIn-right e w.mail sent i)
 
-warden_mute : (p : Plan) (w w' : World) → Reach p w' → (s : Step p w w') → (sent : List Envelope) → w'.mail ≡ w.mail ++ sent → (k : ℕ) → ((e : Envelope) → IsIn e sent → e.from ≡ Warden k) → Mute sent
+warden_mute : (p : Plan) (w w' : World) → Reach p w' → (s : Step p w w') → (sent : List Envelope) → w'.mail ≡ w.mail ++ sent → (k : ℕ) →
+    ((e : Envelope) → IsIn e sent → e.from ≡ Warden k) → Mute sent
 warden_mute p w w' q s sent m k from = record {
   prepare = λ e x c i b. subst (WFact p.wardens k (w'.warden k)) b ((ward_facts_reach p w' q).said e k (there e i) (from e i));
   finalize = λ e x d o i b. final e x d o i b (subst (WFact p.wardens k (w'.warden k)) b ((ward_facts_reach p w' q).said e k (there e i) (from e i)));
@@ -80,7 +85,8 @@ warden_mute p w w' q s sent m k from = record {
     there : (e : Envelope) → IsIn e sent → IsIn e w'.mail
     there e i = rw m (IsIn-right e w.mail sent i)
 
-    final : (e : Envelope) (x : Exec) (d : Choice) (o : Option Content) → IsIn e sent → e.body ≡ Finalize x 0 d o → WFact p.wardens k (w'.warden k) (Finalize x 0 d o) → ⊥
+    final : (e : Envelope) (x : Exec) (d : Choice) (o : Option Content) → IsIn e sent → e.body ≡ Finalize x 0 d o →
+        WFact p.wardens k (w'.warden k) (Finalize x 0 d o) → ⊥
     final e x d o i b f = let v = warden_view p w' q k x 0 f.1.0 f.1.1 in let z : 0 ≡ k + v.0 * p.wardens = v.1 in let l = f.0.0 in omega (arith, z, l)
 
 -- what one client sends in one act
@@ -96,7 +102,8 @@ client_one p w w' q s t = record {
     is_prepare : (x : Exec) (k : Content) → IsIn (Prepare x k) s.sent → (x ≡ (w.client s.c).exec) × IsRunning (w.client s.c).phase × (s.sent ≡ Prepare x k ∷ [])
     is_prepare x k i = sent_prepare (rules p s.c) (GotAt w s.c) (w.client s.c) s.state s.sent s.act x k i
 
-    is_final : (x : Exec) (d : Choice) (o : Option Content) → IsIn (Finalize x 0 d o) s.sent → (x ≡ (w.client s.c).exec) × IsOpen (w.client s.c).phase × (s.sent ≡ Finalize x 0 d o ∷ [])
+    is_final : (x : Exec) (d : Choice) (o : Option Content) → IsIn (Finalize x 0 d o) s.sent →
+        (x ≡ (w.client s.c).exec) × IsOpen (w.client s.c).phase × (s.sent ≡ Finalize x 0 d o ∷ [])
     is_final x d o i = sent_finalize (rules p s.c) (GotAt w s.c) (w.client s.c) s.state s.sent s.act x 0 d o i
 
     mine : (x : Exec) → x ≡ (w.client s.c).exec → IsUnderWay (w.client s.c).phase → x.ver.client ≡ s.c
@@ -107,7 +114,8 @@ client_one p w w' q s t = record {
         let g = prepare_from p w q f x l v b in
         not_at (HasPrepared l) x (w.client s.c) n.0 (running_between _ n.1) (running_prepared l _ n.1) (subst (λ z. At (HasPrepared l) x (w.client z)) (mine x n.0 (running_under_way _ n.1)) g.1)
 
-    clash_final : (f : Envelope) (x : Exec) (d c : Choice) (o u : Option Content) → IsIn (Finalize x 0 d o) s.sent → IsIn f w.mail → f.body ≡ Finalize x 0 c u → ⊥
+    clash_final : (f : Envelope) (x : Exec) (d c : Choice) (o u : Option Content) → IsIn (Finalize x 0 d o) s.sent → IsIn f w.mail →
+        f.body ≡ Finalize x 0 c u → ⊥
     clash_final f x d c o u i v b = let n = is_final x d o i in go n (final_from p w q f x 0 c u v b)
       where
         go : (x ≡ (w.client s.c).exec) × IsOpen (w.client s.c).phase × (s.sent ≡ Finalize x 0 d o ∷ []) → FinalFrom p w f x 0 c u → ⊥
@@ -117,13 +125,15 @@ client_one p w w' q s t = record {
     single : (b c : Body) → s.sent ≡ b ∷ [] → IsIn c s.sent → c ≡ b
     single b c e i = elim (rw e at i) [ inl z ↦ z | inr z ↦ absurd z ]
 
-    pre : (e f : Envelope) (x : Exec) (k l : Content) → IsIn e w'.mail → IsIn f w'.mail → e.body ≡ Prepare x k → f.body ≡ Prepare x l → IsIn e w.mail ⊎ ((e.from ≡ Client s.c) × IsIn e.body s.sent) → IsIn f w.mail ⊎ ((f.from ≡ Client s.c) × IsIn f.body s.sent) → k ≡ l
+    pre : (e f : Envelope) (x : Exec) (k l : Content) → IsIn e w'.mail → IsIn f w'.mail → e.body ≡ Prepare x k → f.body ≡ Prepare x l →
+        IsIn e w.mail ⊎ ((e.from ≡ Client s.c) × IsIn e.body s.sent) → IsIn f w.mail ⊎ ((f.from ≡ Client s.c) × IsIn f.body s.sent) → k ≡ l
     pre e f x k l i j a b (inl i') (inl j') = t.prepare e f x k l i' j' a b
     pre e f x k l i j a b (inr u) (inr v) = let n = is_prepare x k (subst (λ z. IsIn z s.sent) a u.1) in let z : Prepare x l ≡ Prepare x k = single _ _ n.2 (subst (λ z. IsIn z s.sent) b v.1) in cc
     pre e f x k l i j a b (inr u) (inl v) = absurd (clash f x k l (subst (λ z. IsIn z s.sent) a u.1) v b)
     pre e f x k l i j a b (inl u) (inr v) = absurd (clash e x l k (subst (λ z. IsIn z s.sent) b v.1) u a)
 
-    fin : (e f : Envelope) (x : Exec) (d c : Choice) (o u : Option Content) → e.body ≡ Finalize x 0 d o → f.body ≡ Finalize x 0 c u → IsIn e w.mail ⊎ ((e.from ≡ Client s.c) × IsIn e.body s.sent) → IsIn f w.mail ⊎ ((f.from ≡ Client s.c) × IsIn f.body s.sent) → (d ≡ c) × (o ≡ u)
+    fin : (e f : Envelope) (x : Exec) (d c : Choice) (o u : Option Content) → e.body ≡ Finalize x 0 d o → f.body ≡ Finalize x 0 c u →
+        IsIn e w.mail ⊎ ((e.from ≡ Client s.c) × IsIn e.body s.sent) → IsIn f w.mail ⊎ ((f.from ≡ Client s.c) × IsIn f.body s.sent) → (d ≡ c) × (o ≡ u)
     fin e f x d c o u a b (inl i) (inl j) = t.finalize e f x d c o u i j a b
     fin e f x d c o u a b (inr i) (inr j) = let n = is_final x d o (subst (λ z. IsIn z s.sent) a i.1) in let z : Finalize x 0 c u ≡ Finalize x 0 d o = single _ _ n.2 (subst (λ z. IsIn z s.sent) b j.1) in (cc, cc)
     fin e f x d c o u a b (inr i) (inl j) = absurd (clash_final f x d c o u (subst (λ z. IsIn z s.sent) a i.1) j b)
@@ -137,7 +147,8 @@ one_reach p _ (Next w w' q (Replica_acts s)) = one_mute w w' _ s.mail (replica_m
 one_reach p _ (Next w w' q (Warden_acts s)) = one_mute w w' _ s.mail (warden_mute p w w' (Next w w' q (Warden_acts s)) (Warden_acts s) _ s.mail s.k (λ e i. (from_parcels p.replicas (Warden s.k) s.sent e i).0)) (one_reach p w q)
 
 -- all Finalizes of x in one view carry one choice
-pub one_view : (p : Plan) (w : World) → Reach p w → (e f : Envelope) (x : Exec) (v : ℕ) (d c : Choice) (o u : Option Content) → IsIn e w.mail → IsIn f w.mail → e.body ≡ Finalize x v d o → f.body ≡ Finalize x v c u → (d ≡ c) × (o ≡ u)
+pub one_view : (p : Plan) (w : World) → Reach p w → (e f : Envelope) (x : Exec) (v : ℕ) (d c : Choice) (o u : Option Content) → IsIn e w.mail →
+    IsIn f w.mail → e.body ≡ Finalize x v d o → f.body ≡ Finalize x v c u → (d ≡ c) × (o ≡ u)
 one_view p w q e f x v d c o u i j a b = go (final_from p w q e x v d o i a) (final_from p w q f x v c u j b)
   where
     zero_view : (k : ℕ) (r : Round) → (0 < k) × (k ≤ p.wardens) → round_of x v (w.warden k).rounds ≡ Some r → v ≡ 0 → ⊥

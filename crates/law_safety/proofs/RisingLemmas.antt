@@ -9,7 +9,8 @@ pub record IsStrict {A : Type 0} (earlier : A → A → Bool) : Type 0 where
   pub chain : (a b c : A) → earlier a b ≡ true → earlier b c ≡ true → earlier a c ≡ true
 
 -- two rising lists with the same members are equal
-pub same_members : {A : Type 0} (earlier : A → A → Bool) → IsStrict earlier → (xs ys : List A) → IsRisingBy earlier xs → IsRisingBy earlier ys → ((a : A) → IsIn a xs → IsIn a ys) → ((a : A) → IsIn a ys → IsIn a xs) → xs ≡ ys
+pub same_members : {A : Type 0} (earlier : A → A → Bool) → IsStrict earlier → (xs ys : List A) → IsRisingBy earlier xs → IsRisingBy earlier ys →
+    ((a : A) → IsIn a xs → IsIn a ys) → ((a : A) → IsIn a ys → IsIn a xs) → xs ≡ ys
 same_members earlier o [] [] r s f g = refl
 same_members earlier o [] (y ∷ ys) r s f g = absurd (g y (inl refl))
 same_members earlier o (x ∷ xs) [] r s f g = absurd (f x (inl refl))

@@ -68,7 +68,8 @@ unfolding fixed
 fixed_shaped ts = with_content_shaped _ (told_content ts)
 
 -- a client decides so, and drops nothing
-client_shaped : (r : Rules) (Got : NodeId → Body → Type 0) (s s' : ClientState) (sent : List Body) → ClientAct r Got s s' sent → (x : Exec) (d : Choice) (o : Option Content) → IsIn (Decide x d o) sent → Shaped d o
+client_shaped : (r : Rules) (Got : NodeId → Body → Type 0) (s s' : ClientState) (sent : List Body) → ClientAct r Got s s' sent →
+    (x : Exec) (d : Choice) (o : Option Content) → IsIn (Decide x d o) sent → Shaped d o
 client_shaped r Got s s' sent (Quiet act) x d o i = absurd (quiet_not sent _ (λ z. z) act.quiet i)
 client_shaped r Got s s' sent (Advances act) x d o i = absurd (in_none sent _ act.silent i)
 client_shaped r Got s s' sent (Prepares act) x d o i = let z = in_single sent _ _ act.sends i in cc
@@ -79,7 +80,8 @@ client_shaped r Got s s' sent (Decides act) x d o i = let z = in_single sent _ _
 client_shaped r Got s s' sent (Gives_up act) x d o i = let z = in_single sent _ _ act.sends i in let z1 : d ≡ Abandon = cc in let z2 : o ≡ None = cc in subst (λ y. Shaped y o) (sym z1) (subst (λ y. Shaped Abandon y) (sym z2) tt)
 client_shaped r Got s s' sent (Learns act) x d o i = absurd (in_none sent _ act.silent i)
 
-pub client_no_drop : (r : Rules) (Got : NodeId → Body → Type 0) (s s' : ClientState) (sent : List Body) → ClientAct r Got s s' sent → (v : Version) (b : List BaseEntry) → IsIn (Drops v b) sent → ⊥
+pub client_no_drop : (r : Rules) (Got : NodeId → Body → Type 0) (s s' : ClientState) (sent : List Body) → ClientAct r Got s s' sent →
+    (v : Version) (b : List BaseEntry) → IsIn (Drops v b) sent → ⊥
 client_no_drop r Got s s' sent (Quiet act) v b i = quiet_not sent _ (λ z. z) act.quiet i
 client_no_drop r Got s s' sent (Advances act) v b i = in_none sent _ act.silent i
 client_no_drop r Got s s' sent (Prepares act) v b i = let z = in_single sent _ _ act.sends i in cc
@@ -99,7 +101,8 @@ pub record DropOf (r : WardenRules) (s : WardenState) (v : Version) (b : List Ba
   pub version : v ≡ trunc.w
   pub bases : b ≡ base_of trunc.w s trunc.answers
 
-pub ward_dropped : (r : WardenRules) (Got : NodeId → Body → Type 0) (s s' : WardenState) (sent : List Parcel) → WardenAct r Got s s' sent → (a : Parcel) (v : Version) (b : List BaseEntry) → IsIn a sent → Drops v b ≡ parcel_body a → DropOf r s v b
+pub ward_dropped : (r : WardenRules) (Got : NodeId → Body → Type 0) (s s' : WardenState) (sent : List Parcel) → WardenAct r Got s s' sent →
+    (a : Parcel) (v : Version) (b : List BaseEntry) → IsIn a sent → Drops v b ≡ parcel_body a → DropOf r s v b
 unfolding recover next_view
 ward_dropped r Got s s' sent (Rests act) a v b i z = absurd (no_parcels sent a act.silent i)
 ward_dropped r Got s s' sent (Asks act) a v b i z = let k = ap parcel_body (in_parcels sent _ a act.sends i) in cc
@@ -117,7 +120,8 @@ ward_dropped r Got s s' sent (Counts_accepted act) a v b i z = elim act.outcome 
   | inr w ↦ absurd (body (subst (λ (l : List Parcel). IsIn a l) w.2 i))
 ]
   where
-    body : (a ≡ To_all (Decide act.exec act.proposal.choice act.proposal.content)) ⊎ IsIn a (to_client r act.exec (Decide act.exec act.proposal.choice act.proposal.content)) → ⊥
+    body : (a ≡ To_all (Decide act.exec act.proposal.choice act.proposal.content)) ⊎ IsIn a (to_client r act.exec (Decide act.exec act.proposal.choice act.proposal.content)) →
+        ⊥
     body (inl h) = let k = ap parcel_body h in let m : Drops v b ≡ Decide act.exec act.proposal.choice act.proposal.content = z ∙ k in cc
     body (inr h) = let k = to_client_body r act.exec (Decide act.exec act.proposal.choice act.proposal.content) a h in let m : Drops v b ≡ Decide act.exec act.proposal.choice act.proposal.content = z ∙ k in cc
 

@@ -92,7 +92,8 @@ module _ (p : Plan) (pos : 0 < p.replicas) (w : World) (q : Reach p w) (s : Safe
         by : (a : FencedAnswer) → IsIn a t.answers → VotedCommit w x a.replica → IsNamedByAnswers w t x
         by a i v = go ((fact a i).1.voted (cast_found x (casts (w.replica a.replica)) Commit v).0 (cast_found x (casts (w.replica a.replica)) Commit v).1 (cast_found x (casts (w.replica a.replica)) Commit v).3 (subst (λ (y : Exec). UpTo y.ver t.w) (sym (cast_found x (casts (w.replica a.replica)) Commit v).2) u))
           where
-            go : Named (w.replica a.replica) (fact a i).1.list a.base a.committed a.voted (cast_found x (casts (w.replica a.replica)) Commit v).0 → IsNamedByAnswers w t x
+            go : Named (w.replica a.replica) (fact a i).1.list a.base a.committed a.voted (cast_found x (casts (w.replica a.replica)) Commit v).0 →
+                IsNamedByAnswers w t x
             go (As_committed l j e) = Names_committed a i l j (e ∙ (cast_found x (casts (w.replica a.replica)) Commit v).2)
             go (As_voted j) = Names_voted a i _ j (cast_found x (casts (w.replica a.replica)) Commit v).2
             go (As_abandoned e) = let d = decided_sent p w q x Abandon a.replica (subst (λ (y : Exec). decided (w.replica a.replica) y ≡ Some Abandon) (cast_found x (casts (w.replica a.replica)) Commit v).2 e) in absurd (apart_locks x (s.abandoned x d.0 d.1) c)
@@ -102,9 +103,11 @@ module _ (p : Plan) (pos : 0 < p.replicas) (w : World) (q : Reach p w) (s : Safe
       -- where an execution that the sender of an answer voted Commit on stands
       data Stand (x : Exec) : Type 0 where
         In_committed : (a : FencedAnswer) (c : Kept) → IsIn a t.answers → IsIn c a.committed → c.exec ≡ x → Stand x
-        In_settled : (a : FencedAnswer) (c : Kept) (d : DecidedProposal) → IsIn a t.answers → IsIn c a.voted → c.exec ≡ x → decision_on (w.warden k) x ≡ Some d → Stand x
+        In_settled : (a : FencedAnswer) (c : Kept) (d : DecidedProposal) → IsIn a t.answers → IsIn c a.voted → c.exec ≡ x →
+            decision_on (w.warden k) x ≡ Some d → Stand x
         In_abandoned : AbandonLock p.replicas w x → Stand x
-        In_dropped : (a : FencedAnswer) (v : Version) (i : IsIn a t.answers) → WasSent w (Drops v a.base) → UpTo x.ver v → v ≡ dropped (fact a i).1.list → Stand x
+        In_dropped : (a : FencedAnswer) (v : Version) (i : IsIn a t.answers) → WasSent w (Drops v a.base) → UpTo x.ver v → v ≡ dropped (fact a i).1.list →
+            Stand x
 
       named : (x : Exec) → named_committed t.answers x ≡ true → Stand x
       named x e =
@@ -167,7 +170,8 @@ module _ (p : Plan) (pos : 0 < p.replicas) (w : World) (q : Reach p w) (s : Safe
           ++ flat_map (λ (a : FencedAnswer). decided_entries t.w (w.warden k) a.voted) t.answers)
 
       -- the base has each committed write at or below the version, or a greater one
-      pub base_holds : (y : Exec) (l : Content) → CommitSent w y → WasSent w (Prepare y l) → UpTo y.ver t.w → (e : BaseEntry) → IsIn e (entries_of y 1 l.writes) → HasEntry (base_of t.w (w.warden k) t.answers) e
+      pub base_holds : (y : Exec) (l : Content) → CommitSent w y → WasSent w (Prepare y l) → UpTo y.ver t.w → (e : BaseEntry) →
+          IsIn e (entries_of y 1 l.writes) → HasEntry (base_of t.w (w.warden k) t.answers) e
       unfolding base_of
       base_holds y l c pr u e i =
           let m = quorums_meet p.replicas _ _ answerers (s.committed y c.0 c.1).1 in
@@ -238,7 +242,8 @@ module _ (p : Plan) (pos : 0 < p.replicas) (w : World) (q : Reach p w) (s : Safe
           kept : (a : FencedAnswer) → IsIn a t.answers → IsIn d (kept_entries t.w a.committed) → Written w t.w d
           kept a j h = let c = IsIn-flat_map (λ (b : Kept). cond (before t.w b.exec.ver) [] (entries_of b.exec 1 b.content.writes)) d a.committed h in go c.0 c.1 (before t.w c.0.exec.ver) refl c.2
             where
-              go : (c : Kept) → IsIn c a.committed → (z : Bool) → before t.w c.exec.ver ≡ z → IsIn d (cond z [] (entries_of c.exec 1 c.content.writes)) → Written w t.w d
+              go : (c : Kept) → IsIn c a.committed → (z : Bool) → before t.w c.exec.ver ≡ z → IsIn d (cond z [] (entries_of c.exec 1 c.content.writes)) →
+                  Written w t.w d
               go c m true e n = absurd n
               go c m false e n = let g = ((fact a j).1.committed c m).0 in
                   record { exec = c.exec; content = c.content; decision = (Some c.content, commit_sent p w q a.replica c g); prepare = commit_prepared a.replica c g; upto = e; entry = n }
@@ -246,7 +251,8 @@ module _ (p : Plan) (pos : 0 < p.replicas) (w : World) (q : Reach p w) (s : Safe
           told : (a : FencedAnswer) → IsIn a t.answers → IsIn d (decided_entries t.w (w.warden k) a.voted) → Written w t.w d
           told a j h = let c = IsIn-flat_map (λ (b : Kept). cond (before t.w b.exec.ver) [] (decided_entries_of b.exec (decision_on (w.warden k) b.exec))) d a.voted h in go c.0 (before t.w c.0.exec.ver) refl c.2
             where
-              inside : (x : Exec) → UpTo x.ver t.w → (o : Option DecidedProposal) → decision_on (w.warden k) x ≡ o → IsIn d (decided_entries_of x o) → Written w t.w d
+              inside : (x : Exec) → UpTo x.ver t.w → (o : Option DecidedProposal) → decision_on (w.warden k) x ≡ o → IsIn d (decided_entries_of x o) →
+                  Written w t.w d
               inside x u None e n = absurd n
               inside x u (Some b) e n = content b.proposal.content refl n
                 where
@@ -258,6 +264,7 @@ module _ (p : Plan) (pos : 0 < p.replicas) (w : World) (q : Reach p w) (s : Safe
                         record { exec = x; content = l; decision = (b.proposal.content, sent); prepare = (contents_reach p pos w q).from (Decide x ToCommit b.proposal.content) x l (refl, f) sent; upto = u; entry = n }
                   ]
 
-              go : (c : Kept) → (z : Bool) → before t.w c.exec.ver ≡ z → IsIn d (cond z [] (decided_entries_of c.exec (decision_on (w.warden k) c.exec))) → Written w t.w d
+              go : (c : Kept) → (z : Bool) → before t.w c.exec.ver ≡ z → IsIn d (cond z [] (decided_entries_of c.exec (decision_on (w.warden k) c.exec))) →
+                  Written w t.w d
               go c true e n = absurd n
               go c false e n = inside c.exec e (decision_on (w.warden k) c.exec) refl n

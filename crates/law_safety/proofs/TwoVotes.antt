@@ -35,7 +35,8 @@ well_end : (later g : Handled) → IsWell (later ++ g) → IsWell g
 well_end [] g t = t
 well_end (m ∷ later) g t = well_end later g t.1
 
-missed_base : (d : Cast) (k : Key) (c : Cast) (b : BaseEntry) → MissesAt k d c → b.key ≡ k → before b.wid.ver c.exec.ver ≡ false → before b.wid.ver d.exec.ver ≡ true → conflicts_with_base d.exec.ver d.content b ≡ true
+missed_base : (d : Cast) (k : Key) (c : Cast) (b : BaseEntry) → MissesAt k d c → b.key ≡ k → before b.wid.ver c.exec.ver ≡ false →
+    before b.wid.ver d.exec.ver ≡ true → conflicts_with_base d.exec.ver d.content b ≡ true
 unfolding conflicts_with_base
 missed_base d k c b m e up low =
     both (before b.wid.ver d.exec.ver) _ low
@@ -67,7 +68,8 @@ module _ (p : Plan) (some : 0 < p.replicas) (w : World) (q : Reach p w) (r : ℕ
   above : before (dropped h) second.exec.ver ≡ true
   above = subst (λ (b : Body). is_above (dropped h) (version_of b) ≡ true) (cast_is h m.body second twice.later).0 (takes_above h m.body tk.0)
 
-  low : UpTo first.exec.ver (dropped h) → (k : Key) → MissesAt k first second ⊎ MissesAt k second first → (b : BaseEntry) → IsIn b (base h) → b.key ≡ k → before b.wid.ver first.exec.ver ≡ true
+  low : UpTo first.exec.ver (dropped h) → (k : Key) → MissesAt k first second ⊎ MissesAt k second first → (b : BaseEntry) → IsIn b (base h) → b.key ≡ k →
+      before b.wid.ver first.exec.ver ≡ true
   low z k (inl mis) b ib kb = absurd (true_false (sym (before_then (dropped h) second.exec.ver (dropped h) above (up_to_trans second.exec.ver first.exec.ver (dropped h) (before_up_to second.exec.ver first.exec.ver mis.earlier) z)) ∙ before_self (dropped h)))
   low z k (inr mis) b ib kb = go (before b.wid.ver first.exec.ver) refl
     where

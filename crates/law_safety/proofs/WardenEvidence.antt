@@ -91,7 +91,9 @@ none_some a e = cc
 some_is : {A : Type 0} {a b : A} → Some a ≡ Some b → a ≡ b
 some_is e = cc
 
-act_ward : (p : Plan) (w w' : World) → Reach p w → Step p w w' → (k : ℕ) (s : WardenState) (sent : List Parcel) → ((b : Body) → IsIn (To_all b) sent → WasSent w' b) → WardenAct (warden_rules p k) (HeardAt w k) (w.warden k) s sent → WardEvident p.replicas w' (w.warden k) → WardEvident p.replicas w' s
+act_ward : (p : Plan) (w w' : World) → Reach p w → Step p w w' → (k : ℕ) (s : WardenState) (sent : List Parcel) →
+    ((b : Body) → IsIn (To_all b) sent → WasSent w' b) → WardenAct (warden_rules p k) (HeardAt w k) (w.warden k) s sent →
+    WardEvident p.replicas w' (w.warden k) → WardEvident p.replicas w' s
 unfolding recover
 act_ward p w w' q st k s sent new (Rests act) t = rw act.state t
 act_ward p w w' q st k s sent new (Asks act) t = rw act.state (record {
@@ -105,7 +107,9 @@ act_ward p w w' q st k s sent new (Counts_told act) t = rw act.state (record {
   trunc = t.trunc;
 })
   where
-    choice_of : ((act.proposal ≡ None) × (sent ≡ [])) ⊎ ((act.proposal ≡ Some (fixed (act.round.tolds ++ act.told ∷ []))) × (quorum p.replicas ≤ suc (length act.round.tolds)) × (sent ≡ To_all (Finalize act.exec act.view (fixed (act.round.tolds ++ act.told ∷ [])).choice (fixed (act.round.tolds ++ act.told ∷ [])).content) ∷ [])) → (y : Proposal) → act.proposal ≡ Some y → ((y ≡ fixed (act.round.tolds ++ act.told ∷ [])) × (quorum p.replicas ≤ length (act.round.tolds ++ act.told ∷ []))) × WasSent w' (Finalize act.round.exec act.round.view y.choice y.content)
+    choice_of : ((act.proposal ≡ None) × (sent ≡ [])) ⊎ ((act.proposal ≡ Some (fixed (act.round.tolds ++ act.told ∷ []))) × (quorum p.replicas ≤ suc (length act.round.tolds)) × (sent ≡ To_all (Finalize act.exec act.view (fixed (act.round.tolds ++ act.told ∷ [])).choice (fixed (act.round.tolds ++ act.told ∷ [])).content) ∷ [])) →
+        (y : Proposal) → act.proposal ≡ Some y →
+        ((y ≡ fixed (act.round.tolds ++ act.told ∷ [])) × (quorum p.replicas ≤ length (act.round.tolds ++ act.told ∷ []))) × WasSent w' (Finalize act.round.exec act.round.view y.choice y.content)
     choice_of (inl z) y m = absurd (let n = z.0 in let k : None ≡ Some y = sym n ∙ m in none_some y k)
     choice_of (inr z) y m = let g = round_found act.exec act.view (w.warden k).rounds act.round act.found in let e1 : y ≡ fixed (act.round.tolds ++ act.told ∷ []) = (let n = z.0 in some_is (sym m ∙ n)) in
         ((e1, (let l = z.1 in rw length-append (omega (arith, l)))), rw (e1, g.1, g.2) (new (Finalize act.exec act.view (fixed (act.round.tolds ++ act.told ∷ [])).choice (fixed (act.round.tolds ++ act.told ∷ [])).content) (rw z.2 (inl refl))))
@@ -135,7 +139,8 @@ act_ward p w w' q st k s sent new (Counts_accepted act) t = record {
       proposed = λ c m. old.proposed c (act.proposed ∙ m);
     }
 
-    decisions : ((s.decisions ≡ (w.warden k).decisions) × (sent ≡ [])) ⊎ ((s.decisions ≡ record { exec = act.exec; proposal = act.proposal } ∷ (w.warden k).decisions) × (quorum p.replicas ≤ suc (length act.round.accepts)) × (sent ≡ To_all (Decide act.exec act.proposal.choice act.proposal.content) ∷ to_client (warden_rules p k) act.exec (Decide act.exec act.proposal.choice act.proposal.content))) → (d : DecidedProposal) → IsIn d s.decisions → WasSent w' (Decide d.exec d.proposal.choice d.proposal.content)
+    decisions : ((s.decisions ≡ (w.warden k).decisions) × (sent ≡ [])) ⊎ ((s.decisions ≡ record { exec = act.exec; proposal = act.proposal } ∷ (w.warden k).decisions) × (quorum p.replicas ≤ suc (length act.round.accepts)) × (sent ≡ To_all (Decide act.exec act.proposal.choice act.proposal.content) ∷ to_client (warden_rules p k) act.exec (Decide act.exec act.proposal.choice act.proposal.content))) →
+        (d : DecidedProposal) → IsIn d s.decisions → WasSent w' (Decide d.exec d.proposal.choice d.proposal.content)
     decisions (inl z) d i = t.decision d (rw z.0 at i)
     decisions (inr z) d i = elim (rw z.0 at i) [ inl c ↦ rw c (new (Decide act.exec act.proposal.choice act.proposal.content) (rw z.2 (inl refl))) | inr m ↦ t.decision d m ]
 act_ward p w w' q st k s sent new (Begins_truncation act) t = rw act.state (record { round = t.round; decision = t.decision; trunc = λ c i. elim i [ inl z ↦ rw z (record { answer = λ a j. absurd j; answerers = tt }) | inr j ↦ t.trunc c j ] })
@@ -177,9 +182,11 @@ decided_taken (m ∷ h) x d e = go (λ f. decided_taken h x d f) (decided h x) r
         hit false f e = cc
     new _ e = cc
 
-    go : (decided h x ≡ Some d → (m : Envelope) × IsIn m h × ((o : Option Content) × (m.body ≡ Decide x d o))) → (o : Option Choice) → decided h x ≡ o → option_or o (choice_for x m.body) ≡ Some d → (n : Envelope) × IsIn n (m ∷ h) × ((o : Option Content) × (n.body ≡ Decide x d o))
+    go : (decided h x ≡ Some d → (m : Envelope) × IsIn m h × ((o : Option Content) × (m.body ≡ Decide x d o))) → (o : Option Choice) → decided h x ≡ o →
+        option_or o (choice_for x m.body) ≡ Some d → (n : Envelope) × IsIn n (m ∷ h) × ((o : Option Content) × (n.body ≡ Decide x d o))
     go ih (Some c) f e = let k = ih (f ∙ e) in (k.0, inr k.1, k.2)
     go ih None f e = (m, inl refl, new m.body e)
 
-pub decided_sent : (p : Plan) (w : World) → Reach p w → (x : Exec) (d : Choice) (r : ℕ) → decided (w.replica r) x ≡ Some d → (o : Option Content) × WasSent w (Decide x d o)
+pub decided_sent : (p : Plan) (w : World) → Reach p w → (x : Exec) (d : Choice) (r : ℕ) → decided (w.replica r) x ≡ Some d →
+    (o : Option Content) × WasSent w (Decide x d o)
 decided_sent p w q x d r e = let t = decided_taken (w.replica r) x d e in let m = (took_reach p w q).took r t.0 t.1 in (t.2.0, record { envelope = t.0; there = m.0; body = t.2.1 })

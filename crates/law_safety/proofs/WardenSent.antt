@@ -31,7 +31,8 @@ in_parcels ps c b e i = elim (subst (λ (l : List Parcel). IsIn b l) e i) [ inl 
 pub no_parcels : (ps : List Parcel) (b : Parcel) → ps ≡ [] → IsIn b ps → ⊥
 no_parcels ps b e i = subst (λ (l : List Parcel). IsIn b l) e i
 
-pub ward_decided : (r : WardenRules) (Got : NodeId → Body → Type 0) (s s' : WardenState) (sent : List Parcel) → WardenAct r Got s s' sent → (a : Parcel) (x : Exec) (d : Choice) (o : Option Content) → IsIn a sent → Decide x d o ≡ parcel_body a → DecidedRound r.replicas s' x d o
+pub ward_decided : (r : WardenRules) (Got : NodeId → Body → Type 0) (s s' : WardenState) (sent : List Parcel) → WardenAct r Got s s' sent →
+    (a : Parcel) (x : Exec) (d : Choice) (o : Option Content) → IsIn a sent → Decide x d o ≡ parcel_body a → DecidedRound r.replicas s' x d o
 unfolding recover next_view
 ward_decided r Got s s' sent (Rests act) a x d o i z = absurd (no_parcels sent a act.silent i)
 ward_decided r Got s s' sent (Asks act) a x d o i z = let k = ap parcel_body (in_parcels sent _ a act.sends i) in cc
@@ -47,11 +48,13 @@ ward_decided r Got s s' sent (Counts_accepted act) a x d o i z = elim act.outcom
   | inr w ↦ hit w.1 (body (subst (λ (l : List Parcel). IsIn a l) w.2 i))
 ]
   where
-    body : (a ≡ To_all (Decide act.exec act.proposal.choice act.proposal.content)) ⊎ IsIn a (to_client r act.exec (Decide act.exec act.proposal.choice act.proposal.content)) → parcel_body a ≡ Decide act.exec act.proposal.choice act.proposal.content
+    body : (a ≡ To_all (Decide act.exec act.proposal.choice act.proposal.content)) ⊎ IsIn a (to_client r act.exec (Decide act.exec act.proposal.choice act.proposal.content)) →
+        parcel_body a ≡ Decide act.exec act.proposal.choice act.proposal.content
     body (inl h) = ap parcel_body h
     body (inr h) = to_client_body r act.exec (Decide act.exec act.proposal.choice act.proposal.content) a h
 
-    hit : quorum r.replicas ≤ suc (length act.round.accepts) → parcel_body a ≡ Decide act.exec act.proposal.choice act.proposal.content → DecidedRound r.replicas s' x d o
+    hit : quorum r.replicas ≤ suc (length act.round.accepts) → parcel_body a ≡ Decide act.exec act.proposal.choice act.proposal.content →
+        DecidedRound r.replicas s' x d o
     hit many h = let g = round_found act.exec act.view s.rounds act.round act.found in
         let here = round_found act.exec act.view (with_round act.exec act.view (with_accept act.round act.proposal act.replica) s.rounds) (with_accept act.round act.proposal act.replica) (put_found act.exec act.view (with_accept act.round act.proposal act.replica) s.rounds act.round g.1 g.2 act.found) in
         let same : Decide x d o ≡ Decide act.exec act.proposal.choice act.proposal.content = z ∙ h in

@@ -188,7 +188,8 @@ pub data TryStep (c c' : ClientState) : Type 0 where
       → (IsOn c' → IsOn c) → TryStep c c'
   Next_exec : c'.exec.ver ≡ c.exec.ver → c'.begun ≡ c.begun → c'.attempts ≡ c.attempts → ((e : Decision) → IsIn e c.decisions → IsIn e c'.decisions)
       → IsRunning c.phase ⊎ (IsLive c.fate × IsIn (record { exec = c.exec; choice = Abandon }) c.decisions) → IsRunning c'.phase → TryStep c c'
-  Next_try : c.phase ≡ Between → c.exec.ver.ts < c'.exec.ver.ts → c'.attempts ≡ record { ver = c'.exec.ver; txn = c'.begun; try = c'.try } ∷ c.attempts → ((e : Decision) → IsIn e c.decisions → IsIn e c'.decisions)
+  Next_try : c.phase ≡ Between → c.exec.ver.ts < c'.exec.ver.ts → c'.attempts ≡ record { ver = c'.exec.ver; txn = c'.begun; try = c'.try } ∷ c.attempts →
+      ((e : Decision) → IsIn e c.decisions → IsIn e c'.decisions)
       → ((c'.begun ≡ c.begun) × IsAborted c.fate) ⊎ (c'.begun ≡ c.begun + 1) → IsRunning c'.phase → TryStep c c'
 
 -- the execution goes on: it has the answers that it had, and perhaps more
@@ -204,12 +205,14 @@ pub record Continues (c c' : ClientState) : Type 0 where
 pub record WriteStep (r : Rules) (c c' : ClientState) (sent : List Body) : Type 0 where
   pub grows : IsRunning c'.phase → Continues c c' ⊎ IsEarlier c.exec c'.exec
   pub puts : (x : Exec) (ws : List Write) → IsIn (Puts x ws) sent → (x ≡ c'.exec) × IsRunning c'.phase × (ws ≡ (walk r c').writes)
-  pub prepares : (x : Exec) (k : Content) → IsIn (Prepare x k) sent → (x ≡ c.exec) × IsRunning c.phase × ((e : Ending) × (k ≡ content r c e) × ((walk r c).ending ≡ Some e))
+  pub prepares : (x : Exec) (k : Content) → IsIn (Prepare x k) sent →
+      (x ≡ c.exec) × IsRunning c.phase × ((e : Ending) × (k ≡ content r c e) × ((walk r c).ending ≡ Some e))
 
 -- acts one after another
 pub data Chain (r : Rules) (Got : NodeId → Body → Type 0) (c : ClientState) : ClientState → List Body → Type 0 where
   Start : Chain r Got c c []
-  Then : (c1 c2 : ClientState) (s1 s2 : List Body) → Chain r Got c c1 s1 → ClientAct r Got c1 c2 s2 → TryStep c1 c2 → WriteStep r c1 c2 s2 → Chain r Got c c2 (s1 ++ s2)
+  Then : (c1 c2 : ClientState) (s1 s2 : List Body) → Chain r Got c c1 s1 → ClientAct r Got c1 c2 s2 → TryStep c1 c2 → WriteStep r c1 c2 s2 →
+      Chain r Got c c2 (s1 ++ s2)
 
 -- what the counted votes call for has its ground in them
 abbrev pub Tells : ℕ → List CountedVote → TallyOut → Type 0
@@ -226,15 +229,18 @@ tally_tells n votes = all (nat_le n (count_votes is_commit_vote votes)) refl
     most true = tt
     most false = tt
 
-    some : (t : Bool) → (nat_lt 0 (count_votes not_commit votes) && nat_le (quorum n) (count_votes is_commit_vote votes)) ≡ t → Tells n votes (cond t (Propose ToCommit) (cond (nat_le (quorum n) (count_votes not_commit votes)) (Propose Abandon) Wait))
+    some : (t : Bool) → (nat_lt 0 (count_votes not_commit votes) && nat_le (quorum n) (count_votes is_commit_vote votes)) ≡ t →
+        Tells n votes (cond t (Propose ToCommit) (cond (nat_le (quorum n) (count_votes not_commit votes)) (Propose Abandon) Wait))
     some true q = le_is _ _ (and_right _ _ q)
     some false q = most (nat_le (quorum n) (count_votes not_commit votes))
 
-    final : (t : Bool) → nat_lt 0 (count_votes is_final_vote votes) ≡ t → Tells n votes (cond t FastAbandon (cond (nat_lt 0 (count_votes not_commit votes) && nat_le (quorum n) (count_votes is_commit_vote votes)) (Propose ToCommit) (cond (nat_le (quorum n) (count_votes not_commit votes)) (Propose Abandon) Wait)))
+    final : (t : Bool) → nat_lt 0 (count_votes is_final_vote votes) ≡ t →
+        Tells n votes (cond t FastAbandon (cond (nat_lt 0 (count_votes not_commit votes) && nat_le (quorum n) (count_votes is_commit_vote votes)) (Propose ToCommit) (cond (nat_le (quorum n) (count_votes not_commit votes)) (Propose Abandon) Wait)))
     final true q = lt_is _ _ q
     final false q = some _ refl
 
-    all : (t : Bool) → nat_le n (count_votes is_commit_vote votes) ≡ t → Tells n votes (cond t FastCommit (cond (nat_lt 0 (count_votes is_final_vote votes)) FastAbandon (cond (nat_lt 0 (count_votes not_commit votes) && nat_le (quorum n) (count_votes is_commit_vote votes)) (Propose ToCommit) (cond (nat_le (quorum n) (count_votes not_commit votes)) (Propose Abandon) Wait))))
+    all : (t : Bool) → nat_le n (count_votes is_commit_vote votes) ≡ t →
+        Tells n votes (cond t FastCommit (cond (nat_lt 0 (count_votes is_final_vote votes)) FastAbandon (cond (nat_lt 0 (count_votes not_commit votes) && nat_le (quorum n) (count_votes is_commit_vote votes)) (Propose ToCommit) (cond (nat_le (quorum n) (count_votes not_commit votes)) (Propose Abandon) Wait))))
     all true q = le_is _ _ q
     all false q = final _ refl
 

@@ -43,13 +43,15 @@ module _ (r : Rules) (Got : NodeId → Body → Type 0) where
   one : (c c' : ClientState) (sent : List Body) → ClientAct r Got c c' sent → TryStep c c' → WriteStep r c c' sent → Chain r Got c c' sent
   one c c' sent a t u = Then c c' [] sent Start a t u
 
-  silent : (c c1 c2 : ClientState) (sent : List Body) → Chain r Got c c1 sent → ClientAct r Got c1 c2 [] → TryStep c1 c2 → WriteStep r c1 c2 [] → Chain r Got c c2 sent
+  silent : (c c1 c2 : ClientState) (sent : List Body) → Chain r Got c c1 sent → ClientAct r Got c1 c2 [] → TryStep c1 c2 → WriteStep r c1 c2 [] →
+      Chain r Got c c2 sent
   silent c c1 c2 sent s a t u = subst (λ bs. Chain r Got c c2 bs) (append-nil sent) (Then c1 c2 sent [] s a t u)
 
   quiet_id : (c : ClientState) → Chain r Got c c []
   quiet_id c = Start
 
-  settle_chain : (c0 c : ClientState) (sent : List Body) → IsRunning c.phase → Chain r Got c0 c sent → Chain r Got c0 (prepare_if_ready r c sent).state (prepare_if_ready r c sent).sent
+  settle_chain : (c0 c : ClientState) (sent : List Body) → IsRunning c.phase → Chain r Got c0 c sent →
+      Chain r Got c0 (prepare_if_ready r c sent).state (prepare_if_ready r c sent).sent
   unfolding prepare_if_ready
   settle_chain c0 c sent run s = go (walk r c).ending refl (list_all (λ a. a.label.sure) c.answers)
     where
@@ -58,21 +60,25 @@ module _ (r : Rules) (Got : NodeId → Body → Type 0) where
       go (Some e) q false = s
       go None q t = s
 
-  next_chain : (c0 c : ClientState) (sent : List Body) → (d : Decision) × IsIn d c.decisions × (d.exec ≡ c.exec) → IsIn (record { exec = c.exec; choice = Abandon }) c.decisions → Chain r Got c0 (ended c Live) sent → Chain r Got c0 (next_execution r c sent).state (next_execution r c sent).sent
+  next_chain : (c0 c : ClientState) (sent : List Body) → (d : Decision) × IsIn d c.decisions × (d.exec ≡ c.exec) →
+      IsIn (record { exec = c.exec; choice = Abandon }) c.decisions → Chain r Got c0 (ended c Live) sent →
+      Chain r Got c0 (next_execution r c sent).state (next_execution r c sent).sent
   unfolding next_execution rewound relabelled
   next_chain c0 c sent b g s = go (list_any other_value c.answers)
     where
       puts : List Body
       puts = one_when (may_put (walk r (relabelled c)).ending) (Puts (next_exec c.exec) (walk r (relabelled c)).writes)
 
-      go : (t : Bool) → Chain r Got c0 (cond t (record { state = rewound c (cut c.answers); sent = sent }) (prepare_if_ready r (relabelled c) (sent ++ one_when (may_put (walk r (relabelled c)).ending) (Puts (next_exec c.exec) (walk r (relabelled c)).writes)))).state (cond t (record { state = rewound c (cut c.answers); sent = sent }) (prepare_if_ready r (relabelled c) (sent ++ one_when (may_put (walk r (relabelled c)).ending) (Puts (next_exec c.exec) (walk r (relabelled c)).writes)))).sent
+      go : (t : Bool) →
+          Chain r Got c0 (cond t (record { state = rewound c (cut c.answers); sent = sent }) (prepare_if_ready r (relabelled c) (sent ++ one_when (may_put (walk r (relabelled c)).ending) (Puts (next_exec c.exec) (walk r (relabelled c)).writes)))).state (cond t (record { state = rewound c (cut c.answers); sent = sent }) (prepare_if_ready r (relabelled c) (sent ++ one_when (may_put (walk r (relabelled c)).ending) (Puts (next_exec c.exec) (walk r (relabelled c)).writes)))).sent
       go true = silent c0 (ended c Live) _ sent s (Advances (record { from = tt; running = tt; later = (inr (refl, omega arith)); own = (inr (refl, inr b)); decisions = refl; silent = refl })) (Next_exec refl refl refl (λ e i. i) (inr (tt, g)) tt) (begins r _ _ (inr (refl, omega arith)))
       go false = settle_chain c0 (relabelled c) _ tt
           (Then (relabelled c) (relabelled c) sent _ (silent c0 (ended c Live) (relabelled c) sent s (Advances (record { from = tt; running = tt; later = (inr (refl, omega arith)); own = (inr (refl, inr b)); decisions = refl; silent = refl })) (Next_exec refl refl refl (λ e i. i) (inr (tt, g)) tt) (begins r _ _ (inr (refl, omega arith))))
           (Quiet (record { exec = refl; decisions = refl; stage = tt; quiet = quiet_puts (may_put (walk r (relabelled c)).ending) _ tt })) (Keeps refl refl refl (λ e i. i) (λ b f. cc) (λ u. u))
           (puts_alone r (relabelled c) (may_put (walk r (relabelled c)).ending) tt))
 
-  conclude_chain : (c0 c : ClientState) (d : Choice) (sent : List Body) → Chain r Got c0 (ended (noted c d) Live) sent → Chain r Got c0 (conclude r c d sent).state (conclude r c d sent).sent
+  conclude_chain : (c0 c : ClientState) (d : Choice) (sent : List Body) → Chain r Got c0 (ended (noted c d) Live) sent →
+      Chain r Got c0 (conclude r c d sent).state (conclude r c d sent).sent
   unfolding conclude
   conclude_chain c0 c ToCommit sent s = silent c0 _ _ sent s (Quiet (record { exec = refl; decisions = refl; stage = refl; quiet = tt })) (Keeps refl refl refl (λ e i. i) (λ b f. absurd f) (λ u. elim u [ inl z ↦ absurd z | inr z ↦ absurd z ])) (stops_silent r _ _ (λ z. z))
   conclude_chain c0 c Abandon sent s = go (list_any is_change c.answers && nat_lt (c.exec.eid + 1) r.execs)
@@ -81,7 +87,9 @@ module _ (r : Rules) (Got : NodeId → Body → Type 0) where
       go true = next_chain c0 (noted c Abandon) sent (record { exec = c.exec; choice = Abandon }, inl refl, refl) (inl refl) s
       go false = silent c0 _ _ sent s (Quiet (record { exec = refl; decisions = refl; stage = refl; quiet = tt })) (Keeps refl refl refl (λ e i. i) (λ b f. inr (inl refl)) (λ u. elim u [ inl z ↦ absurd z | inr z ↦ absurd z ])) (stops_silent r _ _ (λ z. z))
 
-  decide_chain : (c0 c : ClientState) (k : Content) (votes : List CountedVote) (o : Option Choice) (accepts : List ℕ) (d : Choice) → c.phase ≡ Prepared k votes o accepts → Reason r.replicas votes o accepts d → Chain r Got c0 c [] → Chain r Got c0 (decide r c k d).state (decide r c k d).sent
+  decide_chain : (c0 c : ClientState) (k : Content) (votes : List CountedVote) (o : Option Choice) (accepts : List ℕ) (d : Choice) →
+      c.phase ≡ Prepared k votes o accepts → Reason r.replicas votes o accepts d → Chain r Got c0 c [] →
+      Chain r Got c0 (decide r c k d).state (decide r c k d).sent
   unfolding decide
   decide_chain c0 c k votes o accepts d e why s = conclude_chain c0 c d _ (Then c _ [] _ s (Decides (record { content = k; votes = votes; proposal = o; accepts = accepts; choice = d; before = e; reason = why; exec = refl; decisions = refl; phase = refl; sends = refl })) (Keeps refl refl refl (λ e i. inr i) (λ b f. absurd f) (λ u. inl (rw e tt))) (stops r _ _ _ tt (λ z. z)))
 
@@ -108,13 +116,15 @@ module _ (r : Rules) (Got : NodeId → Body → Type 0) where
       go true = one c _ [] (Advances (record { from = unprepared c.phase run; running = tt; later = (inr (refl, omega arith)); own = (inr (refl, inl (running_under_way c.phase run))); decisions = refl; silent = refl })) (Next_exec refl refl refl (λ e i. i) (inl run) tt) (begins r _ _ (inr (refl, omega arith)))
       go false = give_up_chain c run
 
-  follow_running_chain : (c : ClientState) (i : ℕ) (new : Held) (f : Effect) → IsRunning c.phase → Chain r Got c (follow_running r c i (answer_at c i) new f).state (follow_running r c i (answer_at c i) new f).sent
+  follow_running_chain : (c : ClientState) (i : ℕ) (new : Held) (f : Effect) → IsRunning c.phase →
+      Chain r Got c (follow_running r c i (answer_at c i) new f).state (follow_running r c i (answer_at c i) new f).sent
   unfolding follow_running
   follow_running_chain c i new Nothing run = Start
   follow_running_chain c i new Sure run = settle_if_idle_chain c _ run (with_answer_chain c i _ refl)
   follow_running_chain c i new Follow run = go (int_eq (answer_at c i).label.value new.value) refl
     where
-      go : (t : Bool) → int_eq (answer_at c i).label.value new.value ≡ t → Reaches c (cond t (prepare_if_idle r (with_answer c i (record { label = new; next = None }))) (rewind r c i new))
+      go : (t : Bool) → int_eq (answer_at c i).label.value new.value ≡ t →
+          Reaches c (cond t (prepare_if_idle r (with_answer c i (record { label = new; next = None }))) (rewind r c i new))
       go true q = settle_if_idle_chain c _ run (with_answer_chain c i _ ((Decides-int_eq (answer_at c i).label.value new.value).0 q))
       go false q = rewind_chain c i new run
 
@@ -129,7 +139,8 @@ module _ (r : Rules) (Got : NodeId → Body → Type 0) where
       (goes_on r c _ (λ z. record { exec = refl; running = run; begun = refl; more = new.value ∷ []; answers = values_append c.answers (record { label = new; next = None }) }))
   note_on_chain c k new lost false run = note_at_chain c new lost (place_of k 0 (walk r c).keys) run
 
-  note_running_chain : (c : ClientState) (pending : Bool) (k : Key) (new : Held) (lost : Option Wid) → IsRunning c.phase → Reaches c (note_running r c pending k new lost)
+  note_running_chain : (c : ClientState) (pending : Bool) (k : Key) (new : Held) (lost : Option Wid) → IsRunning c.phase →
+      Reaches c (note_running r c pending k new lost)
   unfolding note_running
   note_running_chain c pending k new lost run = note_on_chain c k new lost _ run
 
@@ -137,16 +148,20 @@ module _ (r : Rules) (Got : NodeId → Body → Type 0) where
   Before : ClientState → Content → List CountedVote → ClientState
   Before c k votes = prepared c k votes None []
 
-  propose_chain : (c0 c : ClientState) (k : Content) (votes : List CountedVote) (d : Choice) (accepts : List ℕ) → c.phase ≡ Prepared k votes None accepts → (d ≡ ToCommit → quorum r.replicas ≤ count_votes is_commit_vote votes) → Chain r Got c0 c [] → Reaches c0 (propose c k votes d)
+  propose_chain : (c0 c : ClientState) (k : Content) (votes : List CountedVote) (d : Choice) (accepts : List ℕ) → c.phase ≡ Prepared k votes None accepts →
+      (d ≡ ToCommit → quorum r.replicas ≤ count_votes is_commit_vote votes) → Chain r Got c0 c [] → Reaches c0 (propose c k votes d)
   unfolding propose
   propose_chain c0 c k votes d accepts e f s = Then c _ [] _ s (Proposes (record { content = k; votes = votes; accepts = accepts; choice = d; before = e; ground = f; exec = refl; decisions = refl; phase = refl; sends = refl })) (Keeps refl refl refl (λ e i. i) (λ b f. cc) (λ u. inl (rw e tt))) (stops r _ _ _ tt (λ z. z))
 
   -- what is proposed from the state in which the votes were counted is what is proposed from the one before
-  propose_again : (c0 c : ClientState) (k : Content) (votes : List CountedVote) (d : Choice) → (d ≡ ToCommit → quorum r.replicas ≤ count_votes is_commit_vote votes) → Chain r Got c0 (prepared c k votes None []) [] → Reaches c0 (propose c k votes d)
+  propose_again : (c0 c : ClientState) (k : Content) (votes : List CountedVote) (d : Choice) →
+      (d ≡ ToCommit → quorum r.replicas ≤ count_votes is_commit_vote votes) → Chain r Got c0 (prepared c k votes None []) [] →
+      Reaches c0 (propose c k votes d)
   unfolding propose
   propose_again c0 c k votes d f s = Then (prepared c k votes None []) _ [] _ s (Proposes (record { content = k; votes = votes; accepts = []; choice = d; before = refl; ground = f; exec = refl; decisions = refl; phase = refl; sends = refl })) (Keeps refl refl refl (λ e i. i) (λ b f. cc) (λ u. inl tt)) (stops r _ _ _ tt (λ z. z))
 
-  tally_chain : (c0 c : ClientState) (k : Content) (votes : List CountedVote) (o : TallyOut) → Tells r.replicas votes o → Chain r Got c0 (prepared c k votes None []) [] → Reaches c0 (on_tally r c k votes o)
+  tally_chain : (c0 c : ClientState) (k : Content) (votes : List CountedVote) (o : TallyOut) → Tells r.replicas votes o →
+      Chain r Got c0 (prepared c k votes None []) [] → Reaches c0 (on_tally r c k votes o)
   unfolding on_tally
   tally_chain c0 c k votes FastCommit t s = decide_chain c0 (prepared c k votes None []) k votes None [] ToCommit refl (All_commit refl refl t) s
   tally_chain c0 c k votes FastAbandon t s = decide_chain c0 (prepared c k votes None []) k votes None [] Abandon refl (One_final refl refl t) s
@@ -155,36 +170,45 @@ module _ (r : Rules) (Got : NodeId → Body → Type 0) where
   tally_chain c0 c k votes Wait t s = s
 
   -- what counts
-  counts_vote_chain : (c : ClientState) (k : Content) (votes : List CountedVote) (accepts : List ℕ) (x : Exec) (j : ℕ) (v : Vote) → c.phase ≡ Prepared k votes None accepts → Got (Replica j) (Voted x v) → (0 < j) × (j ≤ r.replicas) → Reaches c (counts_vote r c k votes x j v)
+  counts_vote_chain : (c : ClientState) (k : Content) (votes : List CountedVote) (accepts : List ℕ) (x : Exec) (j : ℕ) (v : Vote) →
+      c.phase ≡ Prepared k votes None accepts → Got (Replica j) (Voted x v) → (0 < j) × (j ≤ r.replicas) → Reaches c (counts_vote r c k votes x j v)
   unfolding counts_vote
   counts_vote_chain c k votes accepts x j v e got range = go (same_exec x c.exec && not (list_any (λ b. b.replica == j) votes)) refl
     where
-      go : (t : Bool) → (same_exec x c.exec && not (list_any (λ b. b.replica == j) votes)) ≡ t → Reaches c (turn_when t c (on_tally r c k (votes ++ record { replica = j; vote = v } ∷ []) (tally_says r.replicas (votes ++ record { replica = j; vote = v } ∷ []))))
+      go : (t : Bool) → (same_exec x c.exec && not (list_any (λ b. b.replica == j) votes)) ≡ t →
+          Reaches c (turn_when t c (on_tally r c k (votes ++ record { replica = j; vote = v } ∷ []) (tally_says r.replicas (votes ++ record { replica = j; vote = v } ∷ []))))
       go true q = tally_chain c c k _ _ (tally_tells r.replicas _) (one c _ [] (Counts (record { content = k; votes = votes; accepts = accepts; replica = j; vote = v; before = e; got = subst (λ y. Got (Replica j) (Voted y v)) (exec_is _ _ (and_left _ _ q)) got; range = range; fresh = not-true _ (and_right _ _ q); exec = refl; decisions = refl; phase = refl; silent = refl })) (Keeps refl refl refl (λ e i. i) (λ b f. cc) (λ u. inl (rw e tt))) (stops_silent r _ _ (λ z. z)))
       go false q = Start
 
-  counts_accept_chain : (c : ClientState) (k : Content) (votes : List CountedVote) (d : Choice) (accepts : List ℕ) (x : Exec) (view j : ℕ) → c.phase ≡ Prepared k votes (Some d) accepts → Got (Replica j) (Accepted x view) → (0 < j) × (j ≤ r.replicas) → Reaches c (counts_accept r c k votes d accepts x view j)
+  counts_accept_chain : (c : ClientState) (k : Content) (votes : List CountedVote) (d : Choice) (accepts : List ℕ) (x : Exec) (view j : ℕ) →
+      c.phase ≡ Prepared k votes (Some d) accepts → Got (Replica j) (Accepted x view) → (0 < j) × (j ≤ r.replicas) →
+      Reaches c (counts_accept r c k votes d accepts x view j)
   unfolding counts_accept
   counts_accept_chain c k votes d accepts x view j e got range = go (same_exec x c.exec && ((view == 0) && not (list_any (λ i. i == j) accepts))) refl
     where
-      go2 : (t : Bool) → nat_le (quorum r.replicas) (suc (length accepts)) ≡ t → Chain r Got c (prepared c k votes (Some d) (accepts ++ j ∷ [])) [] → Reaches c (turn_when t (prepared c k votes (Some d) (accepts ++ j ∷ [])) (decide r (prepared c k votes (Some d) (accepts ++ j ∷ [])) k d))
+      go2 : (t : Bool) → nat_le (quorum r.replicas) (suc (length accepts)) ≡ t → Chain r Got c (prepared c k votes (Some d) (accepts ++ j ∷ [])) [] →
+          Reaches c (turn_when t (prepared c k votes (Some d) (accepts ++ j ∷ [])) (decide r (prepared c k votes (Some d) (accepts ++ j ∷ [])) k d))
       go2 true q s = decide_chain c _ k votes (Some d) (accepts ++ j ∷ []) d refl (By_quorum refl (let l = le_is _ _ q in rw length-append (omega (arith, l)))) s
       go2 false q s = s
 
-      go : (t : Bool) → (same_exec x c.exec && ((view == 0) && not (list_any (λ i. i == j) accepts))) ≡ t → Reaches c (turn_when t c (turn_when (nat_le (quorum r.replicas) (suc (length accepts))) (prepared c k votes (Some d) (accepts ++ j ∷ [])) (decide r (prepared c k votes (Some d) (accepts ++ j ∷ [])) k d)))
+      go : (t : Bool) → (same_exec x c.exec && ((view == 0) && not (list_any (λ i. i == j) accepts))) ≡ t →
+          Reaches c (turn_when t c (turn_when (nat_le (quorum r.replicas) (suc (length accepts))) (prepared c k votes (Some d) (accepts ++ j ∷ [])) (decide r (prepared c k votes (Some d) (accepts ++ j ∷ [])) k d)))
       go true q = go2 (nat_le (quorum r.replicas) (suc (length accepts))) refl (one c _ [] (Accepts (record { content = k; votes = votes; choice = d; accepts = accepts; replica = j; before = e; got = subst (λ y. Got (Replica j) (Accepted c.exec y)) (eqb_is view 0 (and_left _ _ (and_right _ _ q))) (subst (λ y. Got (Replica j) (Accepted y view)) (exec_is _ _ (and_left _ _ q)) got); range = range; fresh = not-true _ (and_right _ _ (and_right _ _ q)); exec = refl; decisions = refl; phase = refl; silent = refl })) (Keeps refl refl refl (λ e i. i) (λ b f. cc) (λ u. inl (rw e tt))) (stops_silent r _ _ (λ z. z)))
       go false q = Start
 
   -- envelopes
-  learns : (c : ClientState) (f : Fate) → (d : Choice) → (IsAborted f → d ≡ Abandon) → (from : NodeId) (x : Exec) (k : Option Content) → IsUnderWay c.phase → Got from (Decide x d k) → (is_warden from && same_exec x c.exec) ≡ true → Chain r Got c (ended (noted c d) f) []
+  learns : (c : ClientState) (f : Fate) → (d : Choice) → (IsAborted f → d ≡ Abandon) → (from : NodeId) (x : Exec) (k : Option Content) → IsUnderWay c.phase →
+      Got from (Decide x d k) → (is_warden from && same_exec x c.exec) ≡ true → Chain r Got c (ended (noted c d) f) []
   learns c f d g from x k u got q = let w = warden_is from (and_left _ _ q) in
       one c _ [] (Learns (record { warden = w.0; choice = d; content = k; under_way = u; got = subst (λ y. Got (Warden w.0) (Decide y d k)) (exec_is _ _ (and_right _ _ q)) (subst (λ y. Got y (Decide x d k)) w.1 got); exec = refl; decisions = refl; phase = refl; silent = refl })) (Keeps refl refl refl (λ e i. inr i) (λ b a. inr (inl (ap (λ (z : Choice). record { exec = c.exec; choice = z }) (sym (g a))))) (λ v. inl u)) (stops_silent r _ _ (λ z. z))
 
-  told_running_chain : (c : ClientState) (from : NodeId) (x : Exec) (d : Choice) (k : Option Content) → IsUnderWay c.phase → Got from (Decide x d k) → (is_warden from && same_exec x c.exec) ≡ true → Reaches c (told_running c d)
+  told_running_chain : (c : ClientState) (from : NodeId) (x : Exec) (d : Choice) (k : Option Content) → IsUnderWay c.phase → Got from (Decide x d k) →
+      (is_warden from && same_exec x c.exec) ≡ true → Reaches c (told_running c d)
   told_running_chain c from x ToCommit k u got q = learns c Committed ToCommit (λ a. absurd a) from x k u got q
   told_running_chain c from x Abandon k u got q = learns c Aborted Abandon (λ a. refl) from x k u got q
 
-  comes_running_chain : (c : ClientState) (pending : Bool) (from : NodeId) (b : Body) → IsRunning c.phase → Got from b → Reaches c (comes_running r c pending from b)
+  comes_running_chain : (c : ClientState) (pending : Bool) (from : NodeId) (b : Body) → IsRunning c.phase → Got from b →
+      Reaches c (comes_running r c pending from b)
   unfolding comes_running
   comes_running_chain c pending from (Note v k wid value sure lost) run got = go (same_version v c.exec.ver)
     where
@@ -212,11 +236,13 @@ module _ (r : Rules) (Got : NodeId → Body → Type 0) where
   unfolding note_prepared
   note_prepared_chain c k new lost = go (place_of k 0 (walk r c).keys)
     where
-      go : (o : Option ℕ) → Chain r Got c (elim o [ None ↦ c | Some i ↦ follow_prepared c i (answer_at c i) new (effect (next_label (answer_at c i)) new lost) ]) []
+      go : (o : Option ℕ) →
+          Chain r Got c (elim o [ None ↦ c | Some i ↦ follow_prepared c i (answer_at c i) new (effect (next_label (answer_at c i)) new lost) ]) []
       go None = Start
       go (Some i) = follow_prepared_same c i new (effect (next_label (answer_at c i)) new lost)
 
-  from_replica_chain : (c : ClientState) (f : ℕ → Turn) (n : ℕ) (from : NodeId) → ((j : ℕ) → from ≡ Replica j → (0 < j) × (j ≤ n) → Reaches c (f j)) → Reaches c (from_replica c f (sender n from))
+  from_replica_chain : (c : ClientState) (f : ℕ → Turn) (n : ℕ) (from : NodeId) → ((j : ℕ) → from ≡ Replica j → (0 < j) × (j ≤ n) → Reaches c (f j)) →
+      Reaches c (from_replica c f (sender n from))
   from_replica_chain c f n (Client j) h = Start
   from_replica_chain c f n (Warden j) h = Start
   from_replica_chain c f n (Replica j) h = go (nat_lt 0 j && nat_le j n) refl
@@ -225,7 +251,8 @@ module _ (r : Rules) (Got : NodeId → Body → Type 0) where
       go true q = h j refl (lt_is _ _ (and_left _ _ q), le_is _ _ (and_right _ _ q))
       go false q = Start
 
-  comes_prepared_chain : (c : ClientState) (k : Content) (votes : List CountedVote) (o : Option Choice) (accepts : List ℕ) (from : NodeId) (b : Body) → c.phase ≡ Prepared k votes o accepts → Got from b → Reaches c (comes_prepared r c k votes o accepts from b)
+  comes_prepared_chain : (c : ClientState) (k : Content) (votes : List CountedVote) (o : Option Choice) (accepts : List ℕ) (from : NodeId) (b : Body) →
+      c.phase ≡ Prepared k votes o accepts → Got from b → Reaches c (comes_prepared r c k votes o accepts from b)
   unfolding comes_prepared
   comes_prepared_chain c k votes o accepts from (Note v key wid value sure lost) e got = go (same_version v c.exec.ver)
     where
@@ -270,7 +297,8 @@ module _ (r : Rules) (Got : NodeId → Body → Type 0) where
       go false f = propose_chain c c k votes Abandon accepts e (λ g. cc) Start
   on_hurry_chain c _ t e q = cc
 
-  begin_chain : (c : ClientState) (begun try : ℕ) → c.phase ≡ Between → ((begun ≡ c.begun) × IsAborted c.fate) ⊎ (begun ≡ c.begun + 1) → Chain r Got c (begin r c begun try) []
+  begin_chain : (c : ClientState) (begun try : ℕ) → c.phase ≡ Between → ((begun ≡ c.begun) × IsAborted c.fate) ⊎ (begun ≡ c.begun + 1) →
+      Chain r Got c (begin r c begun try) []
   unfolding begin
   begin_chain c begun try e f = one c _ [] (Advances (record { from = rw e tt; running = tt; later = inl (omega arith); own = inl refl; decisions = refl; silent = refl })) (Next_try e (omega arith) refl (λ e i. i) f tt) (begins r _ _ (inl (omega arith)))
 

@@ -41,7 +41,8 @@ stage_between (Running a b) q s e = cc
 stage_between (Prepared k v o a) q s e = cc
 
 -- an act leaves the execution, or begins a later one
-pub act_exec : (r : Rules) (Got : NodeId → Body → Type 0) (s s' : ClientState) (sent : List Body) → ClientAct r Got s s' sent → (s'.exec ≡ s.exec) ⊎ IsEarlier s.exec s'.exec
+pub act_exec : (r : Rules) (Got : NodeId → Body → Type 0) (s s' : ClientState) (sent : List Body) → ClientAct r Got s s' sent →
+    (s'.exec ≡ s.exec) ⊎ IsEarlier s.exec s'.exec
 act_exec r Got s s' sent (Quiet act) = inl act.exec
 act_exec r Got s s' sent (Advances act) = inr act.later
 act_exec r Got s s' sent (Prepares act) = inl act.exec
@@ -66,7 +67,8 @@ module _ (r : Rules) (Got : NodeId → Body → Type 0) (s s' : ClientState) (se
   act_over (Learns act) x o = over_same x s s' act.exec (λ b. act.phase) o
 
   -- what a prepared client keeps until it is over
-  pub act_at : (P : Phase → Type 0) → ((p : Phase) → IsUnprepared p → P p → ⊥) → ((k : Content) (vs ws : List CountedVote) (o o' : Option Choice) (acs acs' : List ℕ) → (o ≡ None ⊎ o ≡ o') → P (Prepared k vs o acs) → P (Prepared k ws o' acs'))
+  pub act_at : (P : Phase → Type 0) → ((p : Phase) → IsUnprepared p → P p → ⊥) →
+      ((k : Content) (vs ws : List CountedVote) (o o' : Option Choice) (acs acs' : List ℕ) → (o ≡ None ⊎ o ≡ o') → P (Prepared k vs o acs) → P (Prepared k ws o' acs'))
       → ClientAct r Got s s' sent → (x : Exec) → At P x s → At P x s'
   act_at P none more a x (inl o) = inl (act_over a x o)
   act_at P none more (Quiet act) x (inr h) = go s.phase refl act.stage h.1
@@ -113,7 +115,8 @@ proposed_none d o Between u h = h
 proposed_none d o (Running a b) u h = h
 proposed_none d o (Prepared l v q a) u h = u
 
-proposed_more : (d : Choice) (k' : Option Content) (k : Content) (vs ws : List CountedVote) (o o' : Option Choice) (acs acs' : List ℕ) → (o ≡ None ⊎ o ≡ o') → HasProposed d k' (Prepared k vs o acs) → HasProposed d k' (Prepared k ws o' acs')
+proposed_more : (d : Choice) (k' : Option Content) (k : Content) (vs ws : List CountedVote) (o o' : Option Choice) (acs acs' : List ℕ) → (o ≡ None ⊎ o ≡ o') →
+    HasProposed d k' (Prepared k vs o acs) → HasProposed d k' (Prepared k ws o' acs')
 proposed_more d k' k vs ws None o' acs acs' e h = absurd h
 proposed_more d k' k vs ws (Some e') o' acs acs' (inl e) h = cc
 proposed_more d k' k vs ws (Some e') o' acs acs' (inr e) h = rw (← e) h
@@ -127,10 +130,13 @@ module _ (r : Rules) (Got : NodeId → Body → Type 0) (s s' : ClientState) (se
   own_same : CRec r.client s → IsUnderWay s.phase → s'.exec ≡ s.exec → s'.exec.ver.client ≡ r.client
   own_same t u e = rw e (t.own u)
 
-  decided_old : CRec r.client s → ClientAct r Got s s' sent → s'.decisions ≡ s.decisions → (d : Decision) → IsIn d s'.decisions → (d.exec.ver.client ≡ r.client) × Over d.exec s'
+  decided_old : CRec r.client s → ClientAct r Got s s' sent → s'.decisions ≡ s.decisions → (d : Decision) → IsIn d s'.decisions →
+      (d.exec.ver.client ≡ r.client) × Over d.exec s'
   decided_old t a e d i = let k = t.done d (rw (← e) i) in (k.0, act_over r Got s s' sent a d.exec k.1)
 
-  decided_new : CRec r.client s → ClientAct r Got s s' sent → IsUnderWay s.phase → s'.exec ≡ s.exec → s'.phase ≡ Between → (n : Choice) → s'.decisions ≡ record { exec = s.exec; choice = n } ∷ s.decisions → (d : Decision) → IsIn d s'.decisions → (d.exec.ver.client ≡ r.client) × Over d.exec s'
+  decided_new : CRec r.client s → ClientAct r Got s s' sent → IsUnderWay s.phase → s'.exec ≡ s.exec → s'.phase ≡ Between → (n : Choice) →
+      s'.decisions ≡ record { exec = s.exec; choice = n } ∷ s.decisions → (d : Decision) → IsIn d s'.decisions →
+      (d.exec.ver.client ≡ r.client) × Over d.exec s'
   decided_new t a u e f n q d i = go (rw q at i)
     where
       go : (d ≡ record { exec = s.exec; choice = n }) ⊎ IsIn d s.decisions → (d.exec.ver.client ≡ r.client) × Over d.exec s'

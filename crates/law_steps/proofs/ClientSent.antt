@@ -33,7 +33,8 @@ pub in_none : (bs : List Body) (b : Body) → bs ≡ [] → IsIn b bs → ⊥
 in_none bs b e i = subst (λ (l : List Body). IsIn b l) e i
 
 module _ (r : Rules) (Got : NodeId → Body → Type 0) (s s' : ClientState) (sent : List Body) where
-  pub proposal_of : ClientAct r Got s s' sent → (x : Exec) (v : ℕ) (d : Choice) (o : Option Content) → IsIn (Finalize x v d o) sent → ProposalOf r.replicas s x v d
+  pub proposal_of : ClientAct r Got s s' sent → (x : Exec) (v : ℕ) (d : Choice) (o : Option Content) → IsIn (Finalize x v d o) sent →
+      ProposalOf r.replicas s x v d
   proposal_of (Quiet act) x v d o i = absurd (quiet_not sent _ (λ z. z) act.quiet i)
   proposal_of (Advances act) x v d o i = absurd (in_none sent _ act.silent i)
   proposal_of (Prepares act) x v d o i = let z = in_single sent _ _ act.sends i in cc
@@ -46,8 +47,10 @@ module _ (r : Rules) (Got : NodeId → Body → Type 0) (s s' : ClientState) (se
 
 -- what a client decided by itself
 pub data DecisionOf (n : ℕ) (s s' : ClientState) (sent : List Body) (x : Exec) (d : Choice) : Type 0 where
-  Weighed : (k : Content) (vs : List CountedVote) (o : Option Choice) (acs : List ℕ) → s.phase ≡ Prepared k vs o acs → Reason n vs o acs d → x ≡ s.exec → s'.exec ≡ s.exec → s'.phase ≡ Between → (k' : Option Content) → sent ≡ Decide x d k' ∷ [] → DecisionOf n s s' sent x d
-  Gave_up : IsRunning s.phase → d ≡ Abandon → x ≡ s.exec → s'.exec ≡ s.exec → s'.phase ≡ Between → (k' : Option Content) → sent ≡ Decide x d k' ∷ [] → DecisionOf n s s' sent x d
+  Weighed : (k : Content) (vs : List CountedVote) (o : Option Choice) (acs : List ℕ) → s.phase ≡ Prepared k vs o acs → Reason n vs o acs d → x ≡ s.exec →
+      s'.exec ≡ s.exec → s'.phase ≡ Between → (k' : Option Content) → sent ≡ Decide x d k' ∷ [] → DecisionOf n s s' sent x d
+  Gave_up : IsRunning s.phase → d ≡ Abandon → x ≡ s.exec → s'.exec ≡ s.exec → s'.phase ≡ Between → (k' : Option Content) → sent ≡ Decide x d k' ∷ [] →
+      DecisionOf n s s' sent x d
 
 module _ (r : Rules) (Got : NodeId → Body → Type 0) (s s' : ClientState) (sent : List Body) where
   pub decision_of : ClientAct r Got s s' sent → (x : Exec) (d : Choice) (o : Option Content) → IsIn (Decide x d o) sent → DecisionOf r.replicas s s' sent x d
@@ -70,7 +73,8 @@ module _ (r : Rules) (Got : NodeId → Body → Type 0) (s s' : ClientState) (se
   decision_of (Learns act) x d o i = absurd (in_none sent _ act.silent i)
 
 -- a Prepare among the bodies of an act
-pub sent_prepare : (r : Rules) (Got : NodeId → Body → Type 0) (s s' : ClientState) (sent : List Body) → ClientAct r Got s s' sent → (x : Exec) (k : Content) → IsIn (Prepare x k) sent → (x ≡ s.exec) × IsRunning s.phase × (sent ≡ Prepare x k ∷ [])
+pub sent_prepare : (r : Rules) (Got : NodeId → Body → Type 0) (s s' : ClientState) (sent : List Body) → ClientAct r Got s s' sent → (x : Exec) (k : Content) →
+    IsIn (Prepare x k) sent → (x ≡ s.exec) × IsRunning s.phase × (sent ≡ Prepare x k ∷ [])
 sent_prepare r Got s s' sent a x k i = go a
   where
     quiet : (bs : List Body) → AllQuiet bs → IsIn (Prepare x k) bs → ⊥
@@ -89,7 +93,8 @@ sent_prepare r Got s s' sent a x k i = go a
     go (Advances act) = absurd (none act.silent)
     go (Prepares act) = hit act.content act.running act.sends (rw act.sends at i)
       where
-        hit : (k' : Content) → IsRunning s.phase → sent ≡ Prepare s.exec k' ∷ [] → (Prepare x k ≡ Prepare s.exec k') ⊎ ⊥ → (x ≡ s.exec) × IsRunning s.phase × (sent ≡ Prepare x k ∷ [])
+        hit : (k' : Content) → IsRunning s.phase → sent ≡ Prepare s.exec k' ∷ [] → (Prepare x k ≡ Prepare s.exec k') ⊎ ⊥ →
+            (x ≡ s.exec) × IsRunning s.phase × (sent ≡ Prepare x k ∷ [])
         hit k' n q (inl z) = let a : x ≡ s.exec = cc in (a, n, q ∙ ap (λ (b : Body). b ∷ []) (sym z))
         hit k' n q (inr z) = absurd z
     go (Counts act) = absurd (none act.silent)
@@ -99,7 +104,8 @@ sent_prepare r Got s s' sent a x k i = go a
     go (Gives_up act) = absurd (other _ act.sends (λ z. cc))
     go (Learns act) = absurd (none act.silent)
 
-pub sent_finalize : (r : Rules) (Got : NodeId → Body → Type 0) (s s' : ClientState) (sent : List Body) → ClientAct r Got s s' sent → (x : Exec) (v : ℕ) (d : Choice) (o : Option Content) → IsIn (Finalize x v d o) sent → (x ≡ s.exec) × IsOpen s.phase × (sent ≡ Finalize x v d o ∷ [])
+pub sent_finalize : (r : Rules) (Got : NodeId → Body → Type 0) (s s' : ClientState) (sent : List Body) → ClientAct r Got s s' sent →
+    (x : Exec) (v : ℕ) (d : Choice) (o : Option Content) → IsIn (Finalize x v d o) sent → (x ≡ s.exec) × IsOpen s.phase × (sent ≡ Finalize x v d o ∷ [])
 sent_finalize r Got s s' sent a x v d o i = go a
   where
     quiet : (bs : List Body) → AllQuiet bs → IsIn (Finalize x v d o) bs → ⊥
@@ -120,7 +126,8 @@ sent_finalize r Got s s' sent a x v d o i = go a
     go (Counts act) = absurd (none act.silent)
     go (Proposes act) = hit act.content act.choice (rw act.before tt) act.sends (rw act.sends at i)
       where
-        hit : (k : Content) (d0 : Choice) → IsOpen s.phase → sent ≡ Finalize s.exec 0 d0 (content_for k d0) ∷ [] → (Finalize x v d o ≡ Finalize s.exec 0 d0 (content_for k d0)) ⊎ ⊥ → (x ≡ s.exec) × IsOpen s.phase × (sent ≡ Finalize x v d o ∷ [])
+        hit : (k : Content) (d0 : Choice) → IsOpen s.phase → sent ≡ Finalize s.exec 0 d0 (content_for k d0) ∷ [] →
+            (Finalize x v d o ≡ Finalize s.exec 0 d0 (content_for k d0)) ⊎ ⊥ → (x ≡ s.exec) × IsOpen s.phase × (sent ≡ Finalize x v d o ∷ [])
         hit k d0 n q (inl z) = let a : x ≡ s.exec = cc in (a, n, q ∙ ap (λ (b : Body). b ∷ []) (sym z))
         hit k d0 n q (inr z) = absurd z
     go (Accepts act) = absurd (none act.silent)

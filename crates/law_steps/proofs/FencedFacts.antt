@@ -34,7 +34,8 @@ pub record FencedFact (h : Handled) (w : Version) (b : List BaseEntry) (cs vs : 
   pub voted : (c : Cast) → IsIn c (casts h) → c.vote ≡ Commit → UpTo c.exec.ver w → Named h list b cs vs c
 
 -- after the fence nothing at or below it is voted Commit
-no_new_commit : (h : Handled) (m : Envelope) (w : Version) → UpTo w (fence h) → (c : Cast) → IsIn c (new_cast h (casts h) m.body) → c.vote ≡ Commit → UpTo c.exec.ver w → ⊥
+no_new_commit : (h : Handled) (m : Envelope) (w : Version) → UpTo w (fence h) → (c : Cast) → IsIn c (new_cast h (casts h) m.body) → c.vote ≡ Commit →
+    UpTo c.exec.ver w → ⊥
 no_new_commit h m w f c i v u = let g = cast_is h m.body c i in
     true_false (sym (verdict_commit h (casts h) c.exec c.content (sym g.1 ∙ v)).above ∙ up_to_trans c.exec.ver w (fence h) u f)
 
@@ -57,7 +58,8 @@ fenced_more h m w b cs vs f = record {
   ];
 }
 
-committed_kept : (h : Handled) (w : Version) (k : Kept) → IsIn k (commits h) → before (dropped h) k.exec.ver ≡ true → UpTo k.exec.ver w → IsIn k (committed_upto h w)
+committed_kept : (h : Handled) (w : Version) (k : Kept) → IsIn k (commits h) → before (dropped h) k.exec.ver ≡ true → UpTo k.exec.ver w →
+    IsIn k (committed_upto h w)
 unfolding committed_upto
 committed_kept h w k i a u = in_sorted _ k (IsIn-filter _ (commits h) k i (rw (a, u) refl))
 
@@ -70,12 +72,14 @@ kept_committed h w k i = let j = IsIn-filtered (λ (c : Kept). before (dropped h
     not_up true false e = refl
     not_up false b e = cc
 
-voted_kept : (h : Handled) (w : Version) (c : Cast) → IsIn c (casts h) → c.vote ≡ Commit → decided h c.exec ≡ None → before (dropped h) c.exec.ver ≡ true → UpTo c.exec.ver w → IsIn (record { exec = c.exec; content = c.content }) (voted_upto h w)
+voted_kept : (h : Handled) (w : Version) (c : Cast) → IsIn c (casts h) → c.vote ≡ Commit → decided h c.exec ≡ None → before (dropped h) c.exec.ver ≡ true →
+    UpTo c.exec.ver w → IsIn (record { exec = c.exec; content = c.content }) (voted_upto h w)
 unfolding voted_upto
 voted_kept h w c i v n a u = in_sorted _ _ (map_in (λ (y : Cast). record { exec = y.exec; content = y.content }) _ c (IsIn-filter _ (casts h) c i (rw (v, n, a, u) refl)))
 
 -- the answer to a Fence
-named_now : (h : Handled) (w : Version) → IsWell h → IsTaking h → (c : Cast) → IsIn c (casts h) → c.vote ≡ Commit → UpTo c.exec.ver w → Named h h (base h) (committed_upto h w) (voted_upto h w) c
+named_now : (h : Handled) (w : Version) → IsWell h → IsTaking h → (c : Cast) → IsIn c (casts h) → c.vote ≡ Commit → UpTo c.exec.ver w →
+    Named h h (base h) (committed_upto h w) (voted_upto h w) c
 named_now h w well t c i v u = split (before (dropped h) c.exec.ver) refl
   where
     go : before (dropped h) c.exec.ver ≡ true → (o : Option Choice) → decided h c.exec ≡ o → Named h h (base h) (committed_upto h w) (voted_upto h w) c
@@ -93,14 +97,16 @@ named_now h w well t c i v u = split (before (dropped h) c.exec.ver) refl
         above true a = let d = dropped_taken h a in As_dropped (dropped h) d.0 d.1 d.2 q refl
         above false a = absurd (true_false (sym (cast_above_none h t c i) ∙ up_to_trans c.exec.ver (dropped h) no_version q a))
 
-base_now : (h : Handled) (w : Version) → before (dropped h) w ≡ true → (base h ≡ []) ⊎ ((v : Version) × (m : Envelope) × IsIn m h × (m.body ≡ Drops v (base h)) × UpTo v w)
+base_now : (h : Handled) (w : Version) → before (dropped h) w ≡ true →
+    (base h ≡ []) ⊎ ((v : Version) × (m : Envelope) × IsIn m h × (m.body ≡ Drops v (base h)) × UpTo v w)
 base_now h w a = go (before no_version (dropped h)) refl
   where
     go : (z : Bool) → before no_version (dropped h) ≡ z → (base h ≡ []) ⊎ ((v : Version) × (m : Envelope) × IsIn m h × (m.body ≡ Drops v (base h)) × UpTo v w)
     go true e = let d = dropped_taken h e in inr (dropped h, d.0, d.1, d.2, before_up_to (dropped h) w a)
     go false e = inl (no_base h e)
 
-pub fence_answer : (h : Handled) (m : Envelope) (w : Version) → IsWell h → IsTaking h → takes h m.body ≡ true → m.body ≡ Fence w → FencedFact (m ∷ h) w (base h) (committed_upto h w) (voted_upto h w)
+pub fence_answer : (h : Handled) (m : Envelope) (w : Version) → IsWell h → IsTaking h → takes h m.body ≡ true → m.body ≡ Fence w →
+    FencedFact (m ∷ h) w (base h) (committed_upto h w) (voted_upto h w)
 fence_answer h m w well t k e =
     let a : before (dropped h) w ≡ true = subst (λ (b : Body). is_above (dropped h) (version_of b) ≡ true) e (takes_above h m.body k) in
     record {
@@ -119,6 +125,7 @@ fence_answer h m w well t k e =
     none c i = i
 
 -- what a Fenced answer names as voted was cast
-pub kept_voted : (h : Handled) (w : Version) (k : Kept) → IsIn k (voted_upto h w) → (c : Cast) × IsIn c (casts h) × (k ≡ record { exec = c.exec; content = c.content })
+pub kept_voted : (h : Handled) (w : Version) (k : Kept) → IsIn k (voted_upto h w) →
+    (c : Cast) × IsIn c (casts h) × (k ≡ record { exec = c.exec; content = c.content })
 unfolding voted_upto
 kept_voted h w k i = let m = IsIn-map (λ (y : Cast). record { exec = y.exec; content = y.content }) k _ (of_sorted _ k i) in (m.0, (IsIn-filtered _ (casts h) m.0 m.1).0, m.2)

@@ -104,7 +104,8 @@ replicas_said p F mono w w' new (Warden_acts s) t = record { said = λ e r i q. 
     go e r (inr i) q = let k = from_parcels p.replicas (Warden s.k) s.sent e i in let o = k.0 in absurd (cc)
 replicas_said p F mono w w' new (Replica_acts s) t = record { said = λ e r i q. rw s.replica (go e r (IsIn-cases e w.mail _ (rw s.mail at i)) q) }
   where
-    go : (e : Envelope) (r : ℕ) → IsIn e w.mail ⊎ IsIn e (says p.firsts s.r (w.replica s.r) s.m) → e.from ≡ Replica r → F r (at s.r (after_taking (w.replica s.r) s.m) w.replica r) e.body
+    go : (e : Envelope) (r : ℕ) → IsIn e w.mail ⊎ IsIn e (says p.firsts s.r (w.replica s.r) s.m) → e.from ≡ Replica r →
+        F r (at s.r (after_taking (w.replica s.r) s.m) w.replica r) e.body
     go e r (inl i) q = at_cases (λ h. F r h e.body) s.r (after_taking (w.replica s.r) s.m) w.replica r
         (λ k. rw k (mono s.r (w.replica s.r) s.m e.body (t.said e s.r i (q ∙ ap Replica k)))) (t.said e r i q)
     go e r (inr i) q =
@@ -143,7 +144,8 @@ clients_said p G w w' f (Warden_acts s) t = record { said = λ e c i q. rw s.cli
     go e c (inr i) q = let k = from_parcels p.replicas (Warden s.k) s.sent e i in let o = k.0 in absurd (cc)
 clients_said p G w w' f (Client_acts s) t = record { said = λ e c i q. rw s.client (go e c (IsIn-cases e w.mail _ (rw s.mail at i)) q) }
   where
-    go : (e : Envelope) (c : ℕ) → IsIn e w.mail ⊎ IsIn e (flat_map (to_all p.replicas (Client s.c)) s.sent) → e.from ≡ Client c → G c (at s.c s.state w.client c) e.body
+    go : (e : Envelope) (c : ℕ) → IsIn e w.mail ⊎ IsIn e (flat_map (to_all p.replicas (Client s.c)) s.sent) → e.from ≡ Client c →
+        G c (at s.c s.state w.client c) e.body
     go e c (inl i) q = at_cases (λ z. G c z e.body) s.c s.state w.client c
         (λ k. subst (λ j. G j s.state e.body) (sym k) ((f s.c s.state s.sent s.act).0 e.body (t.said e s.c i (q ∙ ap Client k)))) (t.said e c i q)
     go e c (inr i) q =
@@ -178,7 +180,8 @@ wardens_said p H w w' f (Client_acts s) t = record { said = λ e c i q. rw s.war
     go e c (inr i) q = let k = from_to_all p.replicas (Client s.c) s.sent e i in let o = k.0 in absurd (cc)
 wardens_said p H w w' f (Warden_acts s) t = record { said = λ e c i q. rw s.warden (go e c (IsIn-cases e w.mail _ (rw s.mail at i)) q) }
   where
-    go : (e : Envelope) (c : ℕ) → IsIn e w.mail ⊎ IsIn e (flat_map (parcel p.replicas (Warden s.k)) s.sent) → e.from ≡ Warden c → H c (at s.k s.state w.warden c) e.body
+    go : (e : Envelope) (c : ℕ) → IsIn e w.mail ⊎ IsIn e (flat_map (parcel p.replicas (Warden s.k)) s.sent) → e.from ≡ Warden c →
+        H c (at s.k s.state w.warden c) e.body
     go e c (inl i) q = at_cases (λ z. H c z e.body) s.k s.state w.warden c
         (λ k. subst (λ j. H j s.state e.body) (sym k) ((f s.k s.state s.sent s.real s.act).0 e.body (t.said e s.k i (q ∙ ap Warden k)))) (t.said e c i q)
     go e c (inr i) q =

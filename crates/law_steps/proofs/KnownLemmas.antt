@@ -25,7 +25,8 @@ pub found : {A : Type 0} (name : A → Exec) (x : Exec) (xs : List A) (a : A) �
 found name x [] a e = cc
 found name x (y ∷ ys) a e = go (λ f. found name x ys a f) (same_exec x (name y)) (same_exec_tells x (name y)) e
   where
-    go : (find (λ z. same_exec x (name z)) ys ≡ Some a → IsIn a ys × (name a ≡ x)) → (t : Bool) → ((t ≡ true) × (x ≡ name y)) ⊎ ((t ≡ false) × (x ≢ name y)) → cond t (Some y) (find (λ z. same_exec x (name z)) ys) ≡ Some a → IsIn a (y ∷ ys) × (name a ≡ x)
+    go : (find (λ z. same_exec x (name z)) ys ≡ Some a → IsIn a ys × (name a ≡ x)) → (t : Bool) → ((t ≡ true) × (x ≡ name y)) ⊎ ((t ≡ false) × (x ≢ name y)) →
+        cond t (Some y) (find (λ z. same_exec x (name z)) ys) ≡ Some a → IsIn a (y ∷ ys) × (name a ≡ x)
     go ih true (inl p) e = let f : y ≡ a = cc in (inl (sym f), ap name (sym f) ∙ sym p.1)
     go ih true (inr p) e = cc
     go ih false p e = let k = ih e in (inr k.0, k.1)
@@ -67,7 +68,8 @@ accepted_taken : (h : Handled) (x : Exec) (k : Content) → accepted_content h x
 accepted_taken [] x k e = cc
 accepted_taken (m ∷ h) x k e = go (λ f. accepted_taken h x k f) (accepted_content h x) refl e
   where
-    go : (accepted_content h x ≡ Some k → Took h x k) → (o : Option Content) → accepted_content h x ≡ o → option_or o (accepted_content_for (promised h x) x m.body) ≡ Some k → Took (m ∷ h) x k
+    go : (accepted_content h x ≡ Some k → Took h x k) → (o : Option Content) → accepted_content h x ≡ o →
+        option_or o (accepted_content_for (promised h x) x m.body) ≡ Some k → Took (m ∷ h) x k
     go ih (Some c) f e = took_more m h x k (ih (f ∙ e))
     go ih None f e = (m, inl refl, content_step (promised h x) m m.body x k refl e)
 
@@ -75,7 +77,8 @@ accepted_taken (m ∷ h) x k e = go (λ f. accepted_taken h x k f) (accepted_con
 pub known_taken : (h : Handled) (x : Exec) (k : Content) → known h x ≡ Some k → Took h x k
 known_taken h x k e = go (find (λ (y : Kept). same_exec x y.exec) (commits h)) refl (cast_on x (casts h)) refl e
   where
-    go : (o : Option Kept) → find (λ (y : Kept). same_exec x y.exec) (commits h) ≡ o → (q : Option Cast) → cast_on x (casts h) ≡ q → option_or (option_map (λ (y : Kept). y.content) o) (option_or (option_map (λ (y : Cast). y.content) q) (accepted_content h x)) ≡ Some k → Took h x k
+    go : (o : Option Kept) → find (λ (y : Kept). same_exec x y.exec) (commits h) ≡ o → (q : Option Cast) → cast_on x (casts h) ≡ q →
+        option_or (option_map (λ (y : Kept). y.content) o) (option_or (option_map (λ (y : Cast). y.content) q) (accepted_content h x)) ≡ Some k → Took h x k
     go (Some c) f q g e = let i = found (λ (y : Kept). y.exec) x (commits h) c f in let z : c.content ≡ k = cc in subst (λ u. Took h x u) z (subst (λ u. Took h u c.content) i.1 (commit_taken h c i.0))
     go None f (Some c) g e = let i = found (λ (y : Cast). y.exec) x (casts h) c g in let z : c.content ≡ k = cc in subst (λ u. Took h x u) z (subst (λ u. Took h u c.content) i.1 (cast_taken h c i.0))
     go None f None g e = accepted_taken h x k e
@@ -108,10 +111,12 @@ some_from (Some a) f = (a, refl)
 abbrev pub commit_on : Exec → List Kept → Option Kept
 commit_on x cs = find (λ (y : Kept). same_exec x y.exec) cs
 
-new_commit_finds : (h : Handled) (b : Body) (x : Exec) → lacks_content b ≡ false → decided h x ≡ None → choice_for x b ≡ Some ToCommit → Finds (commit_on x (new_commit h b ++ commits h))
+new_commit_finds : (h : Handled) (b : Body) (x : Exec) → lacks_content b ≡ false → decided h x ≡ None → choice_for x b ≡ Some ToCommit →
+    Finds (commit_on x (new_commit h b ++ commits h))
 new_commit_finds h (Decide y ToCommit (Some k)) x l n e = go (same_exec x y) refl e
   where
-    go : (t : Bool) → same_exec x y ≡ t → then_some t ToCommit ≡ Some ToCommit → Finds (commit_on x (one_when (is_none (decided h y)) (record { exec = y; content = k }) ++ commits h))
+    go : (t : Bool) → same_exec x y ≡ t → then_some t ToCommit ≡ Some ToCommit →
+        Finds (commit_on x (one_when (is_none (decided h y)) (record { exec = y; content = k }) ++ commits h))
     go true f e = let g : x ≡ y = exec_is x y f in rw (← g, n, same_exec_refl) tt
     go false f e = cc
 new_commit_finds h (Decide y ToCommit None) x l n e = cc
@@ -136,7 +141,8 @@ pub commit_finds : (h : Handled) (x : Exec) → IsWell h → decided h x ≡ Som
 commit_finds [] x i e = cc
 commit_finds (m ∷ h) x i e = go (λ f. commit_finds h x i.1 f) (decided h x) refl e
   where
-    go : (decided h x ≡ Some ToCommit → Finds (commit_on x (commits h))) → (o : Option Choice) → decided h x ≡ o → option_or o (choice_for x m.body) ≡ Some ToCommit → Finds (commit_on x (commits (m ∷ h)))
+    go : (decided h x ≡ Some ToCommit → Finds (commit_on x (commits h))) → (o : Option Choice) → decided h x ≡ o →
+        option_or o (choice_for x m.body) ≡ Some ToCommit → Finds (commit_on x (commits (m ∷ h)))
     go ih (Some d) f e = old_commit_finds h m.body x (ih (f ∙ e))
     go ih None f e = new_commit_finds h m.body x i.0 f e
 
@@ -146,20 +152,23 @@ known_commit h x f = let s = some_from (commit_on x (commits h)) f in rw s.1 tt
 pub known_cast : (h : Handled) (x : Exec) → Finds (cast_on x (casts h)) → Finds (known h x)
 known_cast h x f = go (commit_on x (commits h)) (some_from (cast_on x (casts h)) f)
   where
-    go : (o : Option Kept) → (c : Cast) × (cast_on x (casts h) ≡ Some c) → Finds (option_or (option_map (λ (y : Kept). y.content) o) (option_or (option_map (λ (y : Cast). y.content) (cast_on x (casts h))) (accepted_content h x)))
+    go : (o : Option Kept) → (c : Cast) × (cast_on x (casts h) ≡ Some c) →
+        Finds (option_or (option_map (λ (y : Kept). y.content) o) (option_or (option_map (λ (y : Cast). y.content) (cast_on x (casts h))) (accepted_content h x)))
     go (Some c) s = tt
     go None s = rw s.1 tt
 
 pub known_accepted : (h : Handled) (x : Exec) → Finds (accepted_content h x) → Finds (known h x)
 known_accepted h x f = go (commit_on x (commits h)) (cast_on x (casts h)) (some_from (accepted_content h x) f)
   where
-    go : (o : Option Kept) (q : Option Cast) → (c : Content) × (accepted_content h x ≡ Some c) → Finds (option_or (option_map (λ (y : Kept). y.content) o) (option_or (option_map (λ (y : Cast). y.content) q) (accepted_content h x)))
+    go : (o : Option Kept) (q : Option Cast) → (c : Content) × (accepted_content h x ≡ Some c) →
+        Finds (option_or (option_map (λ (y : Kept). y.content) o) (option_or (option_map (λ (y : Cast). y.content) q) (accepted_content h x)))
     go (Some c) q s = tt
     go None (Some c) s = tt
     go None None s = rw s.1 tt
 
 -- an acceptance of Commit brought a content
-new_content_finds : (p : ℕ) (h : Handled) (b : Body) (x : Exec) (a : Acceptance) → p ≡ promised h x → lacks_content b ≡ false → a.choice ≡ ToCommit → a.exec ≡ x → IsIn a (new_acceptance h b) → Finds (accepted_content_for p x b)
+new_content_finds : (p : ℕ) (h : Handled) (b : Body) (x : Exec) (a : Acceptance) → p ≡ promised h x → lacks_content b ≡ false → a.choice ≡ ToCommit →
+    a.exec ≡ x → IsIn a (new_acceptance h b) → Finds (accepted_content_for p x b)
 new_content_finds p h (Finalize y v d (Some k)) x a q l c e i =
     let j = IsIn-one_when _ _ a i in let f : y ≡ x = ap (λ (z : Acceptance). z.exec) (sym j.1) ∙ e in let g : nat_le p v ≡ true = rw (q, ← f) j.0 in
     rw (f, same_exec_refl, g) tt
@@ -167,11 +176,13 @@ new_content_finds p h (Finalize y v ToCommit None) x a q l c e i = cc
 new_content_finds p h (Finalize y v Abandon None) x a q l c e i = let j = IsIn-one_when _ _ a i in let f : a.choice ≡ Abandon = ap (λ (z : Acceptance). z.choice) j.1 in cc
 new_content_finds p h _ x a q l c e i = absurd i
 
-pub accepted_content_finds : (h : Handled) (x : Exec) (a : Acceptance) → IsWell h → IsIn a (acceptances h) → a.exec ≡ x → a.choice ≡ ToCommit → Finds (accepted_content h x)
+pub accepted_content_finds : (h : Handled) (x : Exec) (a : Acceptance) → IsWell h → IsIn a (acceptances h) → a.exec ≡ x → a.choice ≡ ToCommit →
+    Finds (accepted_content h x)
 accepted_content_finds [] x a w i e c = absurd i
 accepted_content_finds (m ∷ h) x a w i e c = go (λ j. accepted_content_finds h x a w.1 j e c) (IsIn-cases a (new_acceptance h m.body) (acceptances h) i) (accepted_content h x) refl
   where
-    go : (IsIn a (acceptances h) → Finds (accepted_content h x)) → IsIn a (new_acceptance h m.body) ⊎ IsIn a (acceptances h) → (o : Option Content) → accepted_content h x ≡ o → Finds (option_or o (accepted_content_for (promised h x) x m.body))
+    go : (IsIn a (acceptances h) → Finds (accepted_content h x)) → IsIn a (new_acceptance h m.body) ⊎ IsIn a (acceptances h) → (o : Option Content) →
+        accepted_content h x ≡ o → Finds (option_or o (accepted_content_for (promised h x) x m.body))
     go ih j (Some k) f = tt
     go ih (inl j) None f = new_content_finds (promised h x) h m.body x a refl w.0 c e j
     go ih (inr j) None f = absurd (subst Finds f (ih j))

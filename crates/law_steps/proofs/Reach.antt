@@ -77,7 +77,8 @@ from_trans p o v _ a Begins = a
 from_trans p o v _ a (Next w w' b s) = Next w w' (from_trans p o v w a b) s
 
 -- the evidence of an act holds in a world with more mail
-act_grows : (r : Rules) (G H : NodeId → Body → Type 0) → ((n : NodeId) (b : Body) → G n b → H n b) → (c c' : ClientState) (sent : List Body) → ClientAct r G c c' sent → ClientAct r H c c' sent
+act_grows : (r : Rules) (G H : NodeId → Body → Type 0) → ((n : NodeId) (b : Body) → G n b → H n b) → (c c' : ClientState) (sent : List Body) →
+    ClientAct r G c c' sent → ClientAct r H c c' sent
 act_grows r G H f c c' sent (Quiet act) = Quiet act
 act_grows r G H f c c' sent (Advances act) = Advances act
 act_grows r G H f c c' sent (Prepares act) = Prepares act
@@ -134,7 +135,8 @@ heard_is p w k (Recovers x) h = tt
 heard_is p w k (Truncates v) h = tt
 
 -- the same of a warden's acts
-warden_act_grows : (r : WardenRules) (G H : NodeId → Body → Type 0) → ((n : NodeId) (b : Body) → G n b → H n b) → (s s' : WardenState) (sent : List Parcel) → WardenAct r G s s' sent → WardenAct r H s s' sent
+warden_act_grows : (r : WardenRules) (G H : NodeId → Body → Type 0) → ((n : NodeId) (b : Body) → G n b → H n b) → (s s' : WardenState) (sent : List Parcel) →
+    WardenAct r G s s' sent → WardenAct r H s s' sent
 warden_act_grows r G H f s s' sent (Rests act) = Rests act
 warden_act_grows r G H f s s' sent (Asks act) = Asks act
 warden_act_grows r G H f s s' sent (Counts_told act) = Counts_told (record { exec = act.exec; view = act.view; told = act.told; round = act.round; proposal = act.proposal; found = act.found; unproposed = act.unproposed; got = f _ _ act.got; range = act.range; fresh = act.fresh; state = act.state; outcome = act.outcome })

@@ -68,7 +68,8 @@ fact_mono r h m b f = go (takes h m.body)
     go false = f
 
 -- the answers
-ask_answer : (h : Handled) (m : Envelope) (x : Exec) (v : ℕ) → IsWell h → m.body ≡ Ask x v → promised h x < v → ToldFact (m ∷ h) x v (vote h x) (accepted h x) (decided h x) (known h x)
+ask_answer : (h : Handled) (m : Envelope) (x : Exec) (v : ℕ) → IsWell h → m.body ≡ Ask x v → promised h x < v →
+    ToldFact (m ∷ h) x v (vote h x) (accepted h x) (decided h x) (known h x)
 ask_answer h m x v w q l = record {
   told = told_new h m x v q l;
   took = λ k e. took_more m h x k (known_taken h x k e);
@@ -81,10 +82,12 @@ ask_answer h m x v w q l = record {
     cast_finds None e = cc
     cast_finds (Some y) e = tt
 
-finalize_answer : (h : Handled) (m : Envelope) (x : Exec) (v : ℕ) (d : Choice) (o : Option Content) → m.body ≡ Finalize x v d o → nat_le (promised h x) v ≡ true → AcceptedFact (m ∷ h) x v
+finalize_answer : (h : Handled) (m : Envelope) (x : Exec) (v : ℕ) (d : Choice) (o : Option Content) → m.body ≡ Finalize x v d o →
+    nat_le (promised h x) v ≡ true → AcceptedFact (m ∷ h) x v
 finalize_answer h m x v d o q l = (record { exec = x; view = v; choice = d; content = o }, rw (q, l) (inl refl), refl, refl)
 
-answer_fact : (firsts : List First2) (r : ℕ) (h : Handled) (m : Envelope) (b c : Body) → IsWell h → IsTaking h → takes h m.body ≡ true → m.body ≡ b → IsIn c (answer firsts h b) → RFact r (m ∷ h) c
+answer_fact : (firsts : List First2) (r : ℕ) (h : Handled) (m : Envelope) (b c : Body) → IsWell h → IsTaking h → takes h m.body ≡ true → m.body ≡ b →
+    IsIn c (answer firsts h b) → RFact r (m ∷ h) c
 unfolding answer
 answer_fact firsts r h m (Get y k) c w tk ts q (inl e) = rw e tt
 answer_fact firsts r h m (Get y k) c w tk ts q (inr e) = absurd e

@@ -24,7 +24,8 @@ pub data Spoken (firsts : List First2) (r : ℕ) (h : Handled) (m e : Envelope) 
 in_letter : (r : ℕ) (to : NodeId) (bs : List Body) (e : Envelope) → IsIn e (map (envelope_from r to) bs) → (e.from ≡ Replica r) × IsIn e.body bs
 in_letter r to bs e i = let k = IsIn-map (envelope_from r to) e bs i in (ap (λ (m : Envelope). m.from) k.2, subst (λ b. IsIn b bs) (sym (ap (λ (m : Envelope). m.body) k.2)) k.1)
 
-in_note : (firsts : List First2) (h h' : Handled) (r : ℕ) (reader : Reader) (e : Envelope) → IsIn e (note_for firsts h h' r reader) → (e.from ≡ Replica r) × IsNote e.body
+in_note : (firsts : List First2) (h h' : Handled) (r : ℕ) (reader : Reader) (e : Envelope) → IsIn e (note_for firsts h h' r reader) →
+    (e.from ≡ Replica r) × IsNote e.body
 unfolding note_for
 in_note firsts h h' r reader e i = let k = IsIn-one_when _ _ e i in (rw k.1, rw k.1 tt)
 
@@ -36,21 +37,27 @@ pub spoken : (firsts : List First2) (r : ℕ) (h : Handled) (m e : Envelope) →
 unfolding says
 spoken firsts r h m e i = go (takes h m.body) refl i
   where
-    go : (t : Bool) → takes h m.body ≡ t → IsIn e (cond t (map (envelope_from r m.from) (answer firsts h m.body) ++ due firsts r h (m ∷ h)) (map (envelope_from r m.from) (refusal h m.body))) → (e.from ≡ Replica r) × Spoken firsts r h m e
+    go : (t : Bool) → takes h m.body ≡ t →
+        IsIn e (cond t (map (envelope_from r m.from) (answer firsts h m.body) ++ due firsts r h (m ∷ h)) (map (envelope_from r m.from) (refusal h m.body))) →
+        (e.from ≡ Replica r) × Spoken firsts r h m e
     go true q i = elim (IsIn-cases e (map (envelope_from r m.from) (answer firsts h m.body)) (due firsts r h (m ∷ h)) i) [
       | inl k ↦ let l = in_letter r m.from (answer firsts h m.body) e k in (l.0, Answers q l.1)
       | inr k ↦ let l = in_due firsts h (m ∷ h) r e k in (l.0, Notes l.1)
     ]
     go false q i = let l = in_letter r m.from (refusal h m.body) e i in (l.0, Refuses l.1)
 
-vote_found : (x : Exec) (old : List Cast) (z : Exec) (c : Content) (w v : Vote) → Voted x v ≡ Voted z w → option_map (λ (y : Cast). y.vote) (cast_on x (record { exec = z; content = c; vote = w } ∷ old)) ≡ Some v
+vote_found : (x : Exec) (old : List Cast) (z : Exec) (c : Content) (w v : Vote) → Voted x v ≡ Voted z w →
+    option_map (λ (y : Cast). y.vote) (cast_on x (record { exec = z; content = c; vote = w } ∷ old)) ≡ Some v
 vote_found x old z c w v e = let f : z ≡ x = cc in let g : w ≡ v = cc in rw (f, same_exec_refl) (ap Some g)
 
-pub voted_answer : (firsts : List First2) (h : Handled) (b : Body) (x : Exec) (v : Vote) → IsIn (Voted x v) (answer firsts h b) → option_map (λ (y : Cast). y.vote) (cast_on x (new_cast h (casts h) b ++ casts h)) ≡ Some v
+pub voted_answer : (firsts : List First2) (h : Handled) (b : Body) (x : Exec) (v : Vote) → IsIn (Voted x v) (answer firsts h b) →
+    option_map (λ (y : Cast). y.vote) (cast_on x (new_cast h (casts h) b ++ casts h)) ≡ Some v
 unfolding answer
 voted_answer firsts h (Prepare z c) x v i = go (may_vote h (casts h) z) i
   where
-    go : (t : Bool) → IsIn (Voted x v) (map (λ (y : Cast). Voted y.exec y.vote) (one_when t (record { exec = z; content = c; vote = verdict h (casts h) z c }))) → option_map (λ (y : Cast). y.vote) (cast_on x (one_when t (record { exec = z; content = c; vote = verdict h (casts h) z c }) ++ casts h)) ≡ Some v
+    go : (t : Bool) →
+        IsIn (Voted x v) (map (λ (y : Cast). Voted y.exec y.vote) (one_when t (record { exec = z; content = c; vote = verdict h (casts h) z c }))) →
+        option_map (λ (y : Cast). y.vote) (cast_on x (one_when t (record { exec = z; content = c; vote = verdict h (casts h) z c }) ++ casts h)) ≡ Some v
     go true (inl e) = vote_found x (casts h) z c (verdict h (casts h) z c) v e
     go true (inr i) = absurd i
     go false i = absurd i

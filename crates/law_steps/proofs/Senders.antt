@@ -11,7 +11,8 @@ use Rattle.law_steps.proofs.ClientFacts.{CFact, At, HasPrepared, HasProposed, cl
 use Rattle.law_steps.proofs.WardenFacts.{WFact, round_found, ward_facts_reach, wrec_reach}
 
 -- which client sent a Prepare
-pub prepare_from : (p : Plan) (w : World) → Reach p w → (e : Envelope) (x : Exec) (k : Content) → IsIn e w.mail → e.body ≡ Prepare x k → (e.from ≡ Client x.ver.client) × At (HasPrepared k) x (w.client x.ver.client)
+pub prepare_from : (p : Plan) (w : World) → Reach p w → (e : Envelope) (x : Exec) (k : Content) → IsIn e w.mail → e.body ≡ Prepare x k →
+    (e.from ≡ Client x.ver.client) × At (HasPrepared k) x (w.client x.ver.client)
 prepare_from p w q e x k i b = go e.from refl
   where
     go : (n : NodeId) → e.from ≡ n → (e.from ≡ Client x.ver.client) × At (HasPrepared k) x (w.client x.ver.client)
@@ -22,9 +23,11 @@ prepare_from p w q e x k i b = go e.from refl
 -- who sent a Finalize: the client, in view 0, or a warden, whose round in that view proposed it
 pub data FinalFrom (p : Plan) (w : World) (e : Envelope) (x : Exec) (v : ℕ) (d : Choice) (o : Option Content) : Type 0 where
   By_client : e.from ≡ Client x.ver.client → v ≡ 0 → At (HasProposed d o) x (w.client x.ver.client) → FinalFrom p w e x v d o
-  By_warden : (k : ℕ) → e.from ≡ Warden k → (0 < k) × (k ≤ p.wardens) → (a : Round) → round_of x v (w.warden k).rounds ≡ Some a → a.proposal ≡ Some (record { choice = d; content = o }) → FinalFrom p w e x v d o
+  By_warden : (k : ℕ) → e.from ≡ Warden k → (0 < k) × (k ≤ p.wardens) → (a : Round) → round_of x v (w.warden k).rounds ≡ Some a →
+      a.proposal ≡ Some (record { choice = d; content = o }) → FinalFrom p w e x v d o
 
-pub final_from : (p : Plan) (w : World) → Reach p w → (e : Envelope) (x : Exec) (v : ℕ) (d : Choice) (o : Option Content) → IsIn e w.mail → e.body ≡ Finalize x v d o → FinalFrom p w e x v d o
+pub final_from : (p : Plan) (w : World) → Reach p w → (e : Envelope) (x : Exec) (v : ℕ) (d : Choice) (o : Option Content) → IsIn e w.mail →
+    e.body ≡ Finalize x v d o → FinalFrom p w e x v d o
 final_from p w q e x v d o i b = go e.from refl
   where
     go : (n : NodeId) → e.from ≡ n → FinalFrom p w e x v d o
@@ -33,5 +36,6 @@ final_from p w q e x v d o i b = go e.from refl
     go (Warden k) f = let g : WFact p.wardens k (w.warden k) (Finalize x v d o) = subst (WFact p.wardens k (w.warden k)) b ((ward_facts_reach p w q).said e k i f) in By_warden k f g.0 g.1.0 g.1.1 g.1.2
 
 -- a warden's view is k + i * n for some i
-pub warden_view : (p : Plan) (w : World) → Reach p w → (k : ℕ) (x : Exec) (v : ℕ) (a : Round) → round_of x v (w.warden k).rounds ≡ Some a → (i : ℕ) × (v ≡ k + i * p.wardens)
+pub warden_view : (p : Plan) (w : World) → Reach p w → (k : ℕ) (x : Exec) (v : ℕ) (a : Round) → round_of x v (w.warden k).rounds ≡ Some a →
+    (i : ℕ) × (v ≡ k + i * p.wardens)
 warden_view p w q k x v a e = let f = round_found x v (w.warden k).rounds a e in let n = (wrec_reach p w q k).numbered a f.0 in (n.0, sym f.2 ∙ n.2)

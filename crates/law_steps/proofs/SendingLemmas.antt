@@ -24,7 +24,8 @@ from_parcel n node (To_all b) e i = let l = IsIn-map (λ r. record { from = node
 from_parcel n node (To_client c b) e (inl q) = (ap (λ (m : Envelope). m.from) q, ap (λ (m : Envelope). m.body) q)
 from_parcel n node (To_client c b) e (inr i) = absurd i
 
-pub from_parcels : (n : ℕ) (node : NodeId) (ps : List Parcel) (e : Envelope) → IsIn e (flat_map (parcel n node) ps) → (e.from ≡ node) × (a : Parcel) × IsIn a ps × (e.body ≡ parcel_body a)
+pub from_parcels : (n : ℕ) (node : NodeId) (ps : List Parcel) (e : Envelope) → IsIn e (flat_map (parcel n node) ps) →
+    (e.from ≡ node) × (a : Parcel) × IsIn a ps × (e.body ≡ parcel_body a)
 from_parcels n node ps e i =
     let k = IsIn-flat_map (parcel n node) e ps i in
     let l = from_parcel n node k.0 e k.2 in

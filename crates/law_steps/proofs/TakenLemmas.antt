@@ -46,18 +46,24 @@ dropped_taken (m ∷ h) e = go m.body refl (λ f. dropped_taken h f)
     Goal : Version → List BaseEntry → Type 0
     Goal v b = (n : Envelope) × IsIn n (m ∷ h) × (n.body ≡ Drops v b)
 
-    new : (v : Version) (b : List BaseEntry) (t : Bool) → m.body ≡ Drops v b → before no_version (cond t v (dropped h)) ≡ true → (before no_version (dropped h) ≡ true → (n : Envelope) × IsIn n h × (n.body ≡ Drops (dropped h) (base h))) → (n : Envelope) × IsIn n (m ∷ h) × (n.body ≡ Drops (cond t v (dropped h)) (cond t b (base h)))
+    new : (v : Version) (b : List BaseEntry) (t : Bool) → m.body ≡ Drops v b → before no_version (cond t v (dropped h)) ≡ true →
+        (before no_version (dropped h) ≡ true → (n : Envelope) × IsIn n h × (n.body ≡ Drops (dropped h) (base h))) →
+        (n : Envelope) × IsIn n (m ∷ h) × (n.body ≡ Drops (cond t v (dropped h)) (cond t b (base h)))
     new v b true q f ih = (m, inl refl, q)
     new v b false q f ih = let k = ih f in (k.0, inr k.1, k.2)
 
-    other : before no_version (later (dropped h) no_version) ≡ true → (before no_version (dropped h) ≡ true → (n : Envelope) × IsIn n h × (n.body ≡ Drops (dropped h) (base h))) → (n : Envelope) × IsIn n (m ∷ h) × (n.body ≡ Drops (later (dropped h) no_version) (base h))
+    other : before no_version (later (dropped h) no_version) ≡ true →
+        (before no_version (dropped h) ≡ true → (n : Envelope) × IsIn n h × (n.body ≡ Drops (dropped h) (base h))) →
+        (n : Envelope) × IsIn n (m ∷ h) × (n.body ≡ Drops (later (dropped h) no_version) (base h))
     other f ih = go2 (before (dropped h) no_version) (none_before (dropped h)) f
       where
-        go2 : (t : Bool) → t ≡ false → before no_version (cond t no_version (dropped h)) ≡ true → (n : Envelope) × IsIn n (m ∷ h) × (n.body ≡ Drops (cond t no_version (dropped h)) (base h))
+        go2 : (t : Bool) → t ≡ false → before no_version (cond t no_version (dropped h)) ≡ true →
+            (n : Envelope) × IsIn n (m ∷ h) × (n.body ≡ Drops (cond t no_version (dropped h)) (base h))
         go2 true z f = cc
         go2 false z f = let k = ih f in (k.0, inr k.1, k.2)
 
-    go : (c : Body) → m.body ≡ c → (before no_version (dropped h) ≡ true → (n : Envelope) × IsIn n h × (n.body ≡ Drops (dropped h) (base h))) → (n : Envelope) × IsIn n (m ∷ h) × (n.body ≡ Drops (dropped (m ∷ h)) (base (m ∷ h)))
+    go : (c : Body) → m.body ≡ c → (before no_version (dropped h) ≡ true → (n : Envelope) × IsIn n h × (n.body ≡ Drops (dropped h) (base h))) →
+        (n : Envelope) × IsIn n (m ∷ h) × (n.body ≡ Drops (dropped (m ∷ h)) (base (m ∷ h)))
     go (Drops v b) q ih = subst (λ (y : Body). (n : Envelope) × IsIn n (m ∷ h) × (n.body ≡ Drops (later (dropped h) (dropped_by y)) (base_after h (base h) y))) (sym q) (new v b (before (dropped h) v) q (subst (λ (y : Body). before no_version (later (dropped h) (dropped_by y)) ≡ true) q e) ih)
     go _ q ih = subst (λ (y : Body). (n : Envelope) × IsIn n (m ∷ h) × (n.body ≡ Drops (later (dropped h) (dropped_by y)) (base_after h (base h) y))) (sym q) (other (subst (λ (y : Body). before no_version (later (dropped h) (dropped_by y)) ≡ true) q e) ih)
 
@@ -66,7 +72,8 @@ pub no_base : (h : Handled) → UpTo (dropped h) no_version → base h ≡ []
 no_base [] e = refl
 no_base (m ∷ h) e = go m.body e (λ f. no_base h f)
   where
-    new : (v : Version) (b : List BaseEntry) (t : Bool) → before (dropped h) v ≡ t → UpTo (cond t v (dropped h)) no_version → (UpTo (dropped h) no_version → base h ≡ []) → cond t b (base h) ≡ []
+    new : (v : Version) (b : List BaseEntry) (t : Bool) → before (dropped h) v ≡ t → UpTo (cond t v (dropped h)) no_version →
+        (UpTo (dropped h) no_version → base h ≡ []) → cond t b (base h) ≡ []
     new v b true q f ih = absurd (true_false (sym (up_to_none (dropped h) v q) ∙ f))
     new v b false q f ih = ih f
 
@@ -92,7 +99,8 @@ pub IsIn-filtered : {A : Type 0} (p : A → Bool) (xs : List A) (a : A) → IsIn
 IsIn-filtered p [] a i = absurd i
 IsIn-filtered {A = A} p (x ∷ xs) a i = go (λ j. IsIn-filtered p xs a j) (p x) refl i
   where
-    go : (IsIn a (filter p xs) → IsIn a xs × (p a ≡ true)) → (t : Bool) → p x ≡ t → IsIn a (cond t (x ∷ filter p xs) (filter p xs)) → IsIn a (x ∷ xs) × (p a ≡ true)
+    go : (IsIn a (filter p xs) → IsIn a xs × (p a ≡ true)) → (t : Bool) → p x ≡ t → IsIn a (cond t (x ∷ filter p xs) (filter p xs)) →
+        IsIn a (x ∷ xs) × (p a ≡ true)
     go ih true q (inl z) = (inl z, ap p z ∙ q)
     go ih true q (inr i) = let k = ih i in (inr k.0, k.1)
     go ih false q i = let k = ih i in (inr k.0, k.1)
@@ -126,7 +134,8 @@ of_sorted [] k i = i
 of_sorted (c ∷ cs) k i = elim (of_put c (sorted_kept cs) k i) [ inl z ↦ inl z | inr j ↦ inr (of_sorted cs k j) ]
 
 -- a cast is the verdict on a Prepare that was taken
-pub cast_is : (h : Handled) (b : Body) (c : Cast) → IsIn c (new_cast h (casts h) b) → (b ≡ Prepare c.exec c.content) × (c.vote ≡ verdict h (casts h) c.exec c.content)
+pub cast_is : (h : Handled) (b : Body) (c : Cast) → IsIn c (new_cast h (casts h) b) →
+    (b ≡ Prepare c.exec c.content) × (c.vote ≡ verdict h (casts h) c.exec c.content)
 cast_is h (Prepare z k) c i = let g = IsIn-one_when _ _ c i in (rw g.1 refl, rw g.1 refl)
 cast_is h _ c i = absurd i
 

@@ -12,19 +12,25 @@ use Rattle.protocol.proofs.TestLemmas.{true_false, and_right}
 use Rattle.protocol.proofs.NamesLemmas.{same_exec_tells, before_self}
 use Rattle.law_steps.proofs.KnownLemmas.{IsWell, commit_finds, some_from, found, commit_on}
 
-pub new_vote : (h : Handled) (m : Envelope) (x : Exec) (v : Vote) → vote (m ∷ h) x ≡ Some v → (vote h x ≡ Some v) ⊎ ((k : Content) × (m.body ≡ Prepare x k) × (verdict h (casts h) x k ≡ v))
+pub new_vote : (h : Handled) (m : Envelope) (x : Exec) (v : Vote) → vote (m ∷ h) x ≡ Some v →
+    (vote h x ≡ Some v) ⊎ ((k : Content) × (m.body ≡ Prepare x k) × (verdict h (casts h) x k ≡ v))
 new_vote h m x v e = go m.body refl e
   where
-    hit : (z : Exec) (k : Content) (t : Bool) → ((t ≡ true) × (x ≡ z)) ⊎ ((t ≡ false) × (x ≢ z)) → m.body ≡ Prepare z k → option_map (λ (y : Cast). y.vote) (cond t (Some (record { exec = z; content = k; vote = verdict h (casts h) z k })) (cast_on x (casts h))) ≡ Some v → (vote h x ≡ Some v) ⊎ ((k : Content) × (m.body ≡ Prepare x k) × (verdict h (casts h) x k ≡ v))
+    hit : (z : Exec) (k : Content) (t : Bool) → ((t ≡ true) × (x ≡ z)) ⊎ ((t ≡ false) × (x ≢ z)) → m.body ≡ Prepare z k →
+        option_map (λ (y : Cast). y.vote) (cond t (Some (record { exec = z; content = k; vote = verdict h (casts h) z k })) (cast_on x (casts h))) ≡ Some v →
+        (vote h x ≡ Some v) ⊎ ((k : Content) × (m.body ≡ Prepare x k) × (verdict h (casts h) x k ≡ v))
     hit z k true (inl p) q e = let f : z ≡ x = sym p.1 in inr (k, q ∙ ap (λ (y : Exec). Prepare y k) f, (let g : verdict h (casts h) z k ≡ v = cc in subst (λ (y : Exec). verdict h (casts h) y k ≡ v) f g))
     hit z k true (inr p) q e = cc
     hit z k false p q e = inl e
 
-    prep : (z : Exec) (k : Content) (t : Bool) → m.body ≡ Prepare z k → option_map (λ (y : Cast). y.vote) (cast_on x (one_when t (record { exec = z; content = k; vote = verdict h (casts h) z k }) ++ casts h)) ≡ Some v → (vote h x ≡ Some v) ⊎ ((k : Content) × (m.body ≡ Prepare x k) × (verdict h (casts h) x k ≡ v))
+    prep : (z : Exec) (k : Content) (t : Bool) → m.body ≡ Prepare z k →
+        option_map (λ (y : Cast). y.vote) (cast_on x (one_when t (record { exec = z; content = k; vote = verdict h (casts h) z k }) ++ casts h)) ≡ Some v →
+        (vote h x ≡ Some v) ⊎ ((k : Content) × (m.body ≡ Prepare x k) × (verdict h (casts h) x k ≡ v))
     prep z k true q e = hit z k (same_exec x z) (same_exec_tells x z) q e
     prep z k false q e = inl e
 
-    go : (b : Body) → m.body ≡ b → option_map (λ (y : Cast). y.vote) (cast_on x (new_cast h (casts h) b ++ casts h)) ≡ Some v → (vote h x ≡ Some v) ⊎ ((k : Content) × (m.body ≡ Prepare x k) × (verdict h (casts h) x k ≡ v))
+    go : (b : Body) → m.body ≡ b → option_map (λ (y : Cast). y.vote) (cast_on x (new_cast h (casts h) b ++ casts h)) ≡ Some v →
+        (vote h x ≡ Some v) ⊎ ((k : Content) × (m.body ≡ Prepare x k) × (verdict h (casts h) x k ≡ v))
     go (Prepare z k) q e = prep z k (may_vote h (casts h) z) q e
     go _ q e = inl e
 
@@ -32,7 +38,8 @@ pub any_true : {A : Type 0} (p : A → Bool) (xs : List A) → list_any p xs ≡
 any_true p [] e = cc
 any_true {A = A} p (x ∷ xs) e = go (any_true p xs) (p x) refl e
   where
-    go : (list_any p xs ≡ true → (a : A) × IsIn a xs × (p a ≡ true)) → (t : Bool) → p x ≡ t → (t || list_any p xs) ≡ true → (a : A) × IsIn a (x ∷ xs) × (p a ≡ true)
+    go : (list_any p xs ≡ true → (a : A) × IsIn a xs × (p a ≡ true)) → (t : Bool) → p x ≡ t → (t || list_any p xs) ≡ true →
+        (a : A) × IsIn a (x ∷ xs) × (p a ≡ true)
     go ih true f e = (x, inl refl, f)
     go ih false f e = let k = ih e in (k.0, inr k.1, k.2)
 
@@ -63,14 +70,17 @@ pub verdict_commit : (h : Handled) (cs : List Cast) (x : Exec) (c : Content) →
 unfolding verdict
 verdict_commit h cs x c e = go (before (fence h) x.ver) refl (list_any (committed_test h x c) (commits h)) refl (list_any (conflicts_with_base x.ver c) (base h)) refl (list_any (open_test h x c) cs) refl e
   where
-    go : (f : Bool) → before (fence h) x.ver ≡ f → (a : Bool) → list_any (committed_test h x c) (commits h) ≡ a → (b : Bool) → list_any (conflicts_with_base x.ver c) (base h) ≡ b → (d : Bool) → list_any (open_test h x c) cs ≡ d → cond (not f) Tentative (cond (a || b) Final (cond d Tentative Commit)) ≡ Commit → Passed h cs x c
+    go : (f : Bool) → before (fence h) x.ver ≡ f → (a : Bool) → list_any (committed_test h x c) (commits h) ≡ a → (b : Bool) →
+        list_any (conflicts_with_base x.ver c) (base h) ≡ b → (d : Bool) → list_any (open_test h x c) cs ≡ d →
+        cond (not f) Tentative (cond (a || b) Final (cond d Tentative Commit)) ≡ Commit → Passed h cs x c
     go false p a q b r d s e = cc
     go true p true q b r d s e = cc
     go true p false q true r d s e = cc
     go true p false q false r true s e = cc
     go true p false q false r false s e = record { above = p; committed = q; base = r; still_open = s }
 
-verdict_final : (h : Handled) (cs : List Cast) (x : Exec) (c : Content) → verdict h cs x c ≡ Final → (list_any (committed_test h x c) (commits h) || list_any (conflicts_with_base x.ver c) (base h)) ≡ true
+verdict_final : (h : Handled) (cs : List Cast) (x : Exec) (c : Content) → verdict h cs x c ≡ Final →
+    (list_any (committed_test h x c) (commits h) || list_any (conflicts_with_base x.ver c) (base h)) ≡ true
 unfolding verdict
 verdict_final h cs x c e = go (not (before (fence h) x.ver)) (list_any (committed_test h x c) (commits h) || list_any (conflicts_with_base x.ver c) (base h)) (list_any (open_test h x c) cs) e
   where
@@ -83,13 +93,15 @@ verdict_final h cs x c e = go (not (before (fence h) x.ver)) (list_any (committe
 and_is : (a b : Bool) → a ≡ true → b ≡ true → (a && b) ≡ true
 and_is a b e f = rw (e, f) refl
 
-open_holds : (h : Handled) (x : Exec) (k : Content) (c : Cast) → before (dropped h) c.exec.ver ≡ true → c.vote ≡ Commit → decided h c.exec ≡ None → conflicts x.ver k c.exec.ver c.content ≡ true → open_test h x k c ≡ true
+open_holds : (h : Handled) (x : Exec) (k : Content) (c : Cast) → before (dropped h) c.exec.ver ≡ true → c.vote ≡ Commit → decided h c.exec ≡ None →
+    conflicts x.ver k c.exec.ver c.content ≡ true → open_test h x k c ≡ true
 open_holds h x k c a v q f =
     and_is (before (dropped h) c.exec.ver) (is_commit_vote c.vote && (is_none (decided h c.exec) && conflicts x.ver k c.exec.ver c.content)) a
     (and_is (is_commit_vote c.vote) (is_none (decided h c.exec) && conflicts x.ver k c.exec.ver c.content) (ap is_commit_vote v)
     (and_is (is_none (decided h c.exec)) (conflicts x.ver k c.exec.ver c.content) (ap is_none q) f))
 
-committed_holds : (h : Handled) (x : Exec) (k : Content) (c : Cast) (l : Kept) → before (dropped h) c.exec.ver ≡ true → l.exec ≡ c.exec → l.content ≡ c.content → conflicts x.ver k c.exec.ver c.content ≡ true → committed_test h x k l ≡ true
+committed_holds : (h : Handled) (x : Exec) (k : Content) (c : Cast) (l : Kept) → before (dropped h) c.exec.ver ≡ true → l.exec ≡ c.exec →
+    l.content ≡ c.content → conflicts x.ver k c.exec.ver c.content ≡ true → committed_test h x k l ≡ true
 committed_holds h x k c l a e g f =
     and_is (before (dropped h) l.exec.ver) (conflicts x.ver k l.exec.ver l.content) (subst (λ (y : Exec). before (dropped h) y.ver ≡ true) (sym e) a)
     (subst (λ (y : Exec). conflicts x.ver k y.ver l.content ≡ true) (sym e) (subst (λ (y : Content). conflicts x.ver k c.exec.ver y ≡ true) (sym g) f))
@@ -112,10 +124,12 @@ earlier_settled h x k c well same i v f e = split (before (dropped h) c.exec.ver
     split false q = inr q
 
 -- a verdict of Final conflicts with something committed there, or with an entry of the base
-pub final_conflict : (h : Handled) (x : Exec) (k : Content) → verdict h (casts h) x k ≡ Final → ((l : Kept) × IsIn l (commits h) × (conflicts x.ver k l.exec.ver l.content ≡ true)) ⊎ ((b : BaseEntry) × IsIn b (base h) × (conflicts_with_base x.ver k b ≡ true))
+pub final_conflict : (h : Handled) (x : Exec) (k : Content) → verdict h (casts h) x k ≡ Final →
+    ((l : Kept) × IsIn l (commits h) × (conflicts x.ver k l.exec.ver l.content ≡ true)) ⊎ ((b : BaseEntry) × IsIn b (base h) × (conflicts_with_base x.ver k b ≡ true))
 final_conflict h x k e = go (list_any (committed_test h x k) (commits h)) refl (list_any (conflicts_with_base x.ver k) (base h)) refl (verdict_final h (casts h) x k e)
   where
-    go : (t : Bool) → list_any (committed_test h x k) (commits h) ≡ t → (u : Bool) → list_any (conflicts_with_base x.ver k) (base h) ≡ u → (t || u) ≡ true → ((l : Kept) × IsIn l (commits h) × (conflicts x.ver k l.exec.ver l.content ≡ true)) ⊎ ((b : BaseEntry) × IsIn b (base h) × (conflicts_with_base x.ver k b ≡ true))
+    go : (t : Bool) → list_any (committed_test h x k) (commits h) ≡ t → (u : Bool) → list_any (conflicts_with_base x.ver k) (base h) ≡ u → (t || u) ≡ true →
+        ((l : Kept) × IsIn l (commits h) × (conflicts x.ver k l.exec.ver l.content ≡ true)) ⊎ ((b : BaseEntry) × IsIn b (base h) × (conflicts_with_base x.ver k b ≡ true))
     go true q u r z = let a = any_true (committed_test h x k) (commits h) q in inl (a.0, a.1, and_right (before (dropped h) a.0.exec.ver) _ a.2)
     go false q true r z = let a = any_true (conflicts_with_base x.ver k) (base h) r in inr (a.0, a.1, a.2)
     go false q false r z = cc

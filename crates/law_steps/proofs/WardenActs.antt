@@ -121,37 +121,46 @@ module _ (r : WardenRules) (Got : NodeId → Body → Type 0) where
   none_is None e = refl
   none_is (Some a) e = cc
 
-  told_acts : (s : WardenState) (x : Exec) (v : ℕ) (t : ToldAnswer) (o : Option Round) → round_of x v s.rounds ≡ o → Got (Replica t.replica) (Told x v t.vote t.accepted t.decided t.content) → (0 < t.replica) × (t.replica ≤ r.replicas) → Acts s (take_told r s x v t o)
+  told_acts : (s : WardenState) (x : Exec) (v : ℕ) (t : ToldAnswer) (o : Option Round) → round_of x v s.rounds ≡ o →
+      Got (Replica t.replica) (Told x v t.vote t.accepted t.decided t.content) → (0 < t.replica) × (t.replica ≤ r.replicas) → Acts s (take_told r s x v t o)
   unfolding take_told proposes
   told_acts s x v t None e got range = Rests (record { state = refl; silent = refl })
   told_acts s x v t (Some a) e got range = go (is_none a.proposal && not (list_any (λ (u : ToldAnswer). u.replica == t.replica) a.tolds)) refl
     where
-      go2 : (u : Bool) → nat_le (quorum r.replicas) (suc (length a.tolds)) ≡ u → a.proposal ≡ None → list_any (λ (u : ToldAnswer). u.replica == t.replica) a.tolds ≡ false → Acts s (cond u (proposes s x v (with_told a t)) (still (round_put s x v (with_told a t))))
+      go2 : (u : Bool) → nat_le (quorum r.replicas) (suc (length a.tolds)) ≡ u → a.proposal ≡ None →
+          list_any (λ (u : ToldAnswer). u.replica == t.replica) a.tolds ≡ false →
+          Acts s (cond u (proposes s x v (with_told a t)) (still (round_put s x v (with_told a t))))
       go2 false q n l = Counts_told (record { exec = x; view = v; told = t; round = a; proposal = None; found = e; unproposed = n; got = got; range = range; fresh = l; state = refl; outcome = (inl (refl, refl)) })
       go2 true q n l = Counts_told (record { exec = x; view = v; told = t; round = a; proposal = Some (fixed (a.tolds ++ t ∷ [])); found = e; unproposed = n; got = got; range = range; fresh = l; state = refl; outcome = (inr (refl, le_is _ _ q, refl)) })
 
-      go : (u : Bool) → (is_none a.proposal && not (list_any (λ (u : ToldAnswer). u.replica == t.replica) a.tolds)) ≡ u → Acts s (cond (not u) (still s) (cond (nat_le (quorum r.replicas) (suc (length a.tolds))) (proposes s x v (with_told a t)) (still (round_put s x v (with_told a t)))))
+      go : (u : Bool) → (is_none a.proposal && not (list_any (λ (u : ToldAnswer). u.replica == t.replica) a.tolds)) ≡ u →
+          Acts s (cond (not u) (still s) (cond (nat_le (quorum r.replicas) (suc (length a.tolds))) (proposes s x v (with_told a t)) (still (round_put s x v (with_told a t)))))
       go false q = Rests (record { state = refl; silent = refl })
       go true q = go2 (nat_le (quorum r.replicas) (suc (length a.tolds))) refl (none_is a.proposal (and_left _ _ q)) (not-true (list_any (λ (u : ToldAnswer). u.replica == t.replica) a.tolds) (and_right (is_none a.proposal) _ q))
 
-  count_acts : (s : WardenState) (x : Exec) (v j : ℕ) (a : Round) → round_of x v s.rounds ≡ Some a → Got (Replica j) (Accepted x v) → (0 < j) × (j ≤ r.replicas) → (o : Option Proposal) → a.proposal ≡ o → Acts s (count_accept r s x v j a o)
+  count_acts : (s : WardenState) (x : Exec) (v j : ℕ) (a : Round) → round_of x v s.rounds ≡ Some a → Got (Replica j) (Accepted x v) →
+      (0 < j) × (j ≤ r.replicas) → (o : Option Proposal) → a.proposal ≡ o → Acts s (count_accept r s x v j a o)
   unfolding count_accept decides
   count_acts s x v j a e got range None n = Rests (record { state = refl; silent = refl })
   count_acts s x v j a e got range (Some p) n = go (list_any (λ i. i == j) a.accepts) refl
     where
-      go2 : (u : Bool) → nat_le (quorum r.replicas) (suc (length a.accepts)) ≡ u → list_any (λ i. i == j) a.accepts ≡ false → Acts s (cond u (decides r s x v (with_accept a p j) p) (still (round_put s x v (with_accept a p j))))
+      go2 : (u : Bool) → nat_le (quorum r.replicas) (suc (length a.accepts)) ≡ u → list_any (λ i. i == j) a.accepts ≡ false →
+          Acts s (cond u (decides r s x v (with_accept a p j) p) (still (round_put s x v (with_accept a p j))))
       go2 false q l = Counts_accepted (record { exec = x; view = v; replica = j; round = a; proposal = p; found = e; proposed = n; got = got; range = range; fresh = l; rounds = refl; truncations = refl; outcome = (inl (refl, refl)) })
       go2 true q l = Counts_accepted (record { exec = x; view = v; replica = j; round = a; proposal = p; found = e; proposed = n; got = got; range = range; fresh = l; rounds = refl; truncations = refl; outcome = (inr (refl, le_is _ _ q, refl)) })
 
-      go : (u : Bool) → list_any (λ i. i == j) a.accepts ≡ u → Acts s (cond u (still s) (cond (nat_le (quorum r.replicas) (suc (length a.accepts))) (decides r s x v (with_accept a p j) p) (still (round_put s x v (with_accept a p j)))))
+      go : (u : Bool) → list_any (λ i. i == j) a.accepts ≡ u →
+          Acts s (cond u (still s) (cond (nat_le (quorum r.replicas) (suc (length a.accepts))) (decides r s x v (with_accept a p j) p) (still (round_put s x v (with_accept a p j)))))
       go true q = Rests (record { state = refl; silent = refl })
       go false q = go2 (nat_le (quorum r.replicas) (suc (length a.accepts))) refl q
 
-  accept_acts : (s : WardenState) (x : Exec) (v j : ℕ) (o : Option Round) → round_of x v s.rounds ≡ o → Got (Replica j) (Accepted x v) → (0 < j) × (j ≤ r.replicas) → Acts s (take_accept r s x v j o)
+  accept_acts : (s : WardenState) (x : Exec) (v j : ℕ) (o : Option Round) → round_of x v s.rounds ≡ o → Got (Replica j) (Accepted x v) →
+      (0 < j) × (j ≤ r.replicas) → Acts s (take_accept r s x v j o)
   accept_acts s x v j None e got range = Rests (record { state = refl; silent = refl })
   accept_acts s x v j (Some a) e got range = count_acts s x v j a e got range a.proposal refl
 
-  heard_acts : (s : WardenState) (f : ℕ → WardenTurn) (n : ℕ) (from : NodeId) → ((j : ℕ) → from ≡ Replica j → (0 < j) × (j ≤ n) → Acts s (f j)) → Acts s (heard s f (sender n from))
+  heard_acts : (s : WardenState) (f : ℕ → WardenTurn) (n : ℕ) (from : NodeId) → ((j : ℕ) → from ≡ Replica j → (0 < j) × (j ≤ n) → Acts s (f j)) →
+      Acts s (heard s f (sender n from))
   heard_acts s f n (Client j) h = Rests (record { state = refl; silent = refl })
   heard_acts s f n (Warden j) h = Rests (record { state = refl; silent = refl })
   heard_acts s f n (Replica j) h = go (nat_lt 0 j && nat_le j n) refl
@@ -164,7 +173,8 @@ module _ (r : WardenRules) (Got : NodeId → Body → Type 0) where
   unfolding recovery_hears
   hears_acts s from (Told x v vote accepted decided content) got = go (is_none (decision_on s x))
     where
-      go : (u : Bool) → Acts s (cond u (heard s (λ k. take_told r s x v (record { replica = k; vote = vote; accepted = accepted; decided = decided; content = content }) (round_of x v s.rounds)) (sender r.replicas from)) (still s))
+      go : (u : Bool) →
+          Acts s (cond u (heard s (λ k. take_told r s x v (record { replica = k; vote = vote; accepted = accepted; decided = decided; content = content }) (round_of x v s.rounds)) (sender r.replicas from)) (still s))
       go true = heard_acts s _ r.replicas from (λ j f range. told_acts s x v (record { replica = j; vote = vote; accepted = accepted; decided = decided; content = content }) (round_of x v s.rounds) refl (subst (λ y. Got y (Told x v vote accepted decided content)) f got) range)
       go false = Rests (record { state = refl; silent = refl })
   hears_acts s from (Accepted x v) got = go (is_none (decision_on s x))
@@ -196,13 +206,15 @@ module _ (r : WardenRules) (Got : NodeId → Body → Type 0) where
   all_chain s u [] c = c
   all_chain s u (x ∷ xs) c = all_chain s (recover_more r u x (is_some (decision_on u.state x) || is_recovering u.state x)) xs (more_chain s u x (is_some (decision_on u.state x) || is_recovering u.state x) c)
 
-  counted_test : (t : Truncation) (w : Version) (k : ℕ) → is_counted r t w k ≡ true → (w ≡ t.w) × (list_any (λ (b : FencedAnswer). b.replica == k) t.answers ≡ false)
+  counted_test : (t : Truncation) (w : Version) (k : ℕ) → is_counted r t w k ≡ true →
+      (w ≡ t.w) × (list_any (λ (b : FencedAnswer). b.replica == k) t.answers ≡ false)
   counted_test t w k e = (
     version_is w t.w (and_right (not t.dropped) _ (and_left _ _ e)),
     not-true _ (and_right (nat_lt (length t.answers) (quorum r.replicas)) _ (and_right (not t.dropped && same_version w t.w) _ e)),
   )
 
-  fence_chain : (s : WardenState) (u : WardenTurn) (w : Version) (a : FencedAnswer) (ts : List Truncation) → u.state.truncations ≡ ts → Chained s u → Got (Replica a.replica) (Fenced w a.base a.committed a.voted) → (0 < a.replica) × (a.replica ≤ r.replicas) → Chained s (take_fenced r u w a ts)
+  fence_chain : (s : WardenState) (u : WardenTurn) (w : Version) (a : FencedAnswer) (ts : List Truncation) → u.state.truncations ≡ ts → Chained s u →
+      Got (Replica a.replica) (Fenced w a.base a.committed a.voted) → (0 < a.replica) × (a.replica ≤ r.replicas) → Chained s (take_fenced r u w a ts)
   unfolding take_fenced
   fence_chain s u w a [] e c got range = c
   fence_chain s u w a (t ∷ ts) e c got range = go (is_counted r t w a.replica) refl
@@ -221,19 +233,23 @@ module _ (r : WardenRules) (Got : NodeId → Body → Type 0) where
             silent = refl;
           }))
 
-      go2 : (z : Bool) → is_counted r t w a.replica ≡ true → Chained s (cond z (recover_all r (with_fenced u t a ts) (to_recover (t.answers ++ a ∷ []))) (with_fenced u t a ts))
+      go2 : (z : Bool) → is_counted r t w a.replica ≡ true →
+          Chained s (cond z (recover_all r (with_fenced u t a ts) (to_recover (t.answers ++ a ∷ []))) (with_fenced u t a ts))
       go2 false q = now q
       go2 true q = all_chain s (with_fenced u t a ts) (to_recover (t.answers ++ a ∷ [])) (now q)
 
-      go : (z : Bool) → is_counted r t w a.replica ≡ z → Chained s (cond (not z) u (cond (nat_le (quorum r.replicas) (suc (length t.answers))) (recover_all r (with_fenced u t a ts) (to_recover (t.answers ++ a ∷ []))) (with_fenced u t a ts)))
+      go : (z : Bool) → is_counted r t w a.replica ≡ z →
+          Chained s (cond (not z) u (cond (nat_le (quorum r.replicas) (suc (length t.answers))) (recover_all r (with_fenced u t a ts) (to_recover (t.answers ++ a ∷ []))) (with_fenced u t a ts)))
       go false q = c
       go true q = go2 (nat_le (quorum r.replicas) (suc (length t.answers))) q
 
-  from_chain : (s : WardenState) (u : WardenTurn) (j : ℕ) (b : Body) → Chained s u → Got (Replica j) b → (0 < j) × (j ≤ r.replicas) → Chained s (fenced_from r u (Some j) b)
+  from_chain : (s : WardenState) (u : WardenTurn) (j : ℕ) (b : Body) → Chained s u → Got (Replica j) b → (0 < j) × (j ≤ r.replicas) →
+      Chained s (fenced_from r u (Some j) b)
   from_chain s u j (Fenced w b c v) h got range = fence_chain s u w (record { replica = j; base = b; committed = c; voted = v }) u.state.truncations refl h got range
   from_chain s u j _ h got range = h
 
-  sender_chain : (s : WardenState) (u : WardenTurn) (from : NodeId) (b : Body) → Chained s u → Got from b → Chained s (fenced_from r u (sender r.replicas from) b)
+  sender_chain : (s : WardenState) (u : WardenTurn) (from : NodeId) (b : Body) → Chained s u → Got from b →
+      Chained s (fenced_from r u (sender r.replicas from) b)
   sender_chain s u (Client j) b h got = h
   sender_chain s u (Warden j) b h got = h
   sender_chain s u (Replica j) b h got = go (nat_lt 0 j && nat_le j r.replicas) refl
@@ -247,7 +263,8 @@ module _ (r : WardenRules) (Got : NodeId → Body → Type 0) where
   finish_chain s u [] e c = c
   finish_chain s u (t ∷ ts) e c = go (is_finished r u.state t) refl
     where
-      go : (z : Bool) → is_finished r u.state t ≡ z → Chained s (cond z (record { state = with_truncations u.state (drop_sent t ∷ ts); sent = u.sent ++ To_all (Drops t.w (base_of t.w u.state t.answers)) ∷ [] }) u)
+      go : (z : Bool) → is_finished r u.state t ≡ z →
+          Chained s (cond z (record { state = with_truncations u.state (drop_sent t ∷ ts); sent = u.sent ++ To_all (Drops t.w (base_of t.w u.state t.answers)) ∷ [] }) u)
       go false q = c
       go true q = Then u.state (with_truncations u.state (drop_sent t ∷ ts)) u.sent (To_all (Drops t.w (base_of t.w u.state t.answers)) ∷ []) c
           (Ends_truncation (record { truncation = t; rest = ts; truncations = e; many = le_is _ _ (and_left _ _ (and_right (not t.dropped) _ q)); settled = and_right (nat_le (quorum r.replicas) (length t.answers)) _ (and_right (not t.dropped) _ q); state = refl; sends = refl }))

@@ -22,7 +22,8 @@ pub round_found : (x : Exec) (v : ℕ) (rounds : List Round) (a : Round) → rou
 round_found x v [] a e = cc
 round_found x v (b ∷ rounds) a e = go (λ f. round_found x v rounds a f) (same_exec x b.exec && (b.view == v)) refl e
   where
-    go : (round_of x v rounds ≡ Some a → IsIn a rounds × (a.exec ≡ x) × (a.view ≡ v)) → (t : Bool) → (same_exec x b.exec && (b.view == v)) ≡ t → cond t (Some b) (round_of x v rounds) ≡ Some a → IsIn a (b ∷ rounds) × (a.exec ≡ x) × (a.view ≡ v)
+    go : (round_of x v rounds ≡ Some a → IsIn a rounds × (a.exec ≡ x) × (a.view ≡ v)) → (t : Bool) → (same_exec x b.exec && (b.view == v)) ≡ t →
+        cond t (Some b) (round_of x v rounds) ≡ Some a → IsIn a (b ∷ rounds) × (a.exec ≡ x) × (a.view ≡ v)
     go ih true q e = let f : b ≡ a = cc in (inl (sym f), ap (λ (z : Round). z.exec) (sym f) ∙ sym (exec_is x b.exec (and_left _ _ q)), ap (λ (z : Round). z.view) (sym f) ∙ eqb_is b.view v (and_right _ _ q))
     go ih false q e = let k = ih e in (inr k.0, k.1, k.2)
 
@@ -30,18 +31,21 @@ eqb_self : (v : ℕ) → (v == v) ≡ true
 eqb_self v = grind (arith, nat_tests)
 
 -- the round that was put is the one found; for another execution or view the one found stays
-pub put_found : (x : Exec) (v : ℕ) (new : Round) (rounds : List Round) (a : Round) → new.exec ≡ x → new.view ≡ v → round_of x v rounds ≡ Some a → round_of x v (with_round x v new rounds) ≡ Some new
+pub put_found : (x : Exec) (v : ℕ) (new : Round) (rounds : List Round) (a : Round) → new.exec ≡ x → new.view ≡ v → round_of x v rounds ≡ Some a →
+    round_of x v (with_round x v new rounds) ≡ Some new
 put_found x v new [] a e f q = cc
 put_found x v new (b ∷ rounds) a e f q = go (λ g. put_found x v new rounds a e f g) (same_exec x b.exec && (b.view == v)) refl q
   where
     hit : (same_exec x new.exec && (new.view == v)) ≡ true
     hit = rw (e, f, same_exec_refl, eqb_self) refl
 
-    go : (round_of x v rounds ≡ Some a → round_of x v (with_round x v new rounds) ≡ Some new) → (t : Bool) → (same_exec x b.exec && (b.view == v)) ≡ t → cond t (Some b) (round_of x v rounds) ≡ Some a → round_of x v (cond t (new ∷ rounds) (b ∷ with_round x v new rounds)) ≡ Some new
+    go : (round_of x v rounds ≡ Some a → round_of x v (with_round x v new rounds) ≡ Some new) → (t : Bool) → (same_exec x b.exec && (b.view == v)) ≡ t →
+        cond t (Some b) (round_of x v rounds) ≡ Some a → round_of x v (cond t (new ∷ rounds) (b ∷ with_round x v new rounds)) ≡ Some new
     go ih true g q = rw hit refl
     go ih false g q = rw g (ih q)
 
-pub put_kept : (x y : Exec) (v u : ℕ) (new : Round) (rounds : List Round) (a c : Round) → new.exec ≡ x → new.view ≡ v → round_of x v rounds ≡ Some a → round_of y u rounds ≡ Some c → (round_of y u (with_round x v new rounds) ≡ Some c) ⊎ ((y ≡ x) × (u ≡ v))
+pub put_kept : (x y : Exec) (v u : ℕ) (new : Round) (rounds : List Round) (a c : Round) → new.exec ≡ x → new.view ≡ v → round_of x v rounds ≡ Some a →
+    round_of y u rounds ≡ Some c → (round_of y u (with_round x v new rounds) ≡ Some c) ⊎ ((y ≡ x) × (u ≡ v))
 put_kept x y v u new [] a c e f q r = cc
 put_kept x y v u new (b ∷ rounds) a c e f q r = go (λ g h. put_kept x y v u new rounds a c e f g h) (same_exec x b.exec && (b.view == v)) refl q (same_exec y b.exec && (b.view == u)) refl r (same_exec y new.exec && (new.view == u)) refl
   where
@@ -61,7 +65,8 @@ pub put_in : (x : Exec) (v : ℕ) (new : Round) (rounds : List Round) (a : Round
 put_in x v new [] a i = absurd i
 put_in x v new (b ∷ rounds) a i = go (λ j. put_in x v new rounds a j) (same_exec x b.exec && (b.view == v)) i
   where
-    go : (IsIn a (with_round x v new rounds) → (a ≡ new) ⊎ IsIn a rounds) → (t : Bool) → IsIn a (cond t (new ∷ rounds) (b ∷ with_round x v new rounds)) → (a ≡ new) ⊎ IsIn a (b ∷ rounds)
+    go : (IsIn a (with_round x v new rounds) → (a ≡ new) ⊎ IsIn a rounds) → (t : Bool) → IsIn a (cond t (new ∷ rounds) (b ∷ with_round x v new rounds)) →
+        (a ≡ new) ⊎ IsIn a (b ∷ rounds)
     go ih true (inl e) = inl e
     go ih true (inr i) = inr (inr i)
     go ih false (inl e) = inr (inl e)
@@ -72,7 +77,8 @@ pub put_used : (x y : Exec) (v : ℕ) (new : Round) (rounds : List Round) → ne
 put_used x y v new [] e = refl
 put_used x y v new (b ∷ rounds) e = go (put_used x y v new rounds e) (same_exec x b.exec && (b.view == v)) refl
   where
-    go : used y (with_round x v new rounds) ≡ used y rounds → (t : Bool) → (same_exec x b.exec && (b.view == v)) ≡ t → used y (cond t (new ∷ rounds) (b ∷ with_round x v new rounds)) ≡ used y (b ∷ rounds)
+    go : used y (with_round x v new rounds) ≡ used y rounds → (t : Bool) → (same_exec x b.exec && (b.view == v)) ≡ t →
+        used y (cond t (new ∷ rounds) (b ∷ with_round x v new rounds)) ≡ used y (b ∷ rounds)
     go ih true q = let f : new.exec ≡ b.exec = e ∙ exec_is x b.exec (and_left _ _ q) in rw f refl
     go ih false q = rw ih refl
 
@@ -114,7 +120,8 @@ module _ (r : WardenRules) (Got : NodeId → Body → Type 0) (s s' : WardenStat
       go true = omega arith
       go false = omega arith
 
-  put_numbered : WRec r.wardens r.warden s → (x : Exec) (v : ℕ) (a new : Round) → round_of x v s.rounds ≡ Some a → new.exec ≡ a.exec → new.view ≡ a.view → (b : Round) → IsIn b (with_round x v new s.rounds) → IsNumbered r.warden r.wardens (with_round x v new s.rounds) b
+  put_numbered : WRec r.wardens r.warden s → (x : Exec) (v : ℕ) (a new : Round) → round_of x v s.rounds ≡ Some a → new.exec ≡ a.exec → new.view ≡ a.view →
+      (b : Round) → IsIn b (with_round x v new s.rounds) → IsNumbered r.warden r.wardens (with_round x v new s.rounds) b
   put_numbered t x v a new q e f b i = let f0 = round_found x v s.rounds a q in go f0 (put_in x v new s.rounds b i)
     where
       go : IsIn a s.rounds × (a.exec ≡ x) × (a.view ≡ v) → (b ≡ new) ⊎ IsIn b s.rounds → IsNumbered r.warden r.wardens (with_round x v new s.rounds) b
@@ -129,7 +136,9 @@ module _ (r : WardenRules) (Got : NodeId → Body → Type 0) (s s' : WardenStat
       New : Round
       New = record { exec = act.exec; view = r.warden + used act.exec s.rounds * r.wardens; tolds = []; proposal = None; accepts = [] }
 
-      go : (a : Round) → IsIn a (record { exec = act.exec; view = r.warden + used act.exec s.rounds * r.wardens; tolds = []; proposal = None; accepts = [] } ∷ s.rounds) → IsNumbered r.warden r.wardens (record { exec = act.exec; view = r.warden + used act.exec s.rounds * r.wardens; tolds = []; proposal = None; accepts = [] } ∷ s.rounds) a
+      go : (a : Round) →
+          IsIn a (record { exec = act.exec; view = r.warden + used act.exec s.rounds * r.wardens; tolds = []; proposal = None; accepts = [] } ∷ s.rounds) →
+          IsNumbered r.warden r.wardens (record { exec = act.exec; view = r.warden + used act.exec s.rounds * r.wardens; tolds = []; proposal = None; accepts = [] } ∷ s.rounds) a
       go a (inl z) = subst (λ (b : Round). IsNumbered r.warden r.wardens (record { exec = act.exec; view = r.warden + used act.exec s.rounds * r.wardens; tolds = []; proposal = None; accepts = [] } ∷ s.rounds) b) (sym z) (used act.exec s.rounds, used_new act.exec s.rounds, refl)
       go a (inr i) = let k = t.numbered a i in let m = used_more act.exec a.exec s.rounds (record { exec = act.exec; view = r.warden + used act.exec s.rounds * r.wardens; tolds = []; proposal = None; accepts = [] }) refl in (k.0, (let l = k.1 in omega (arith, l, m)), k.2)
   act_numbered (Counts_told act) t = rw act.state (record { numbered = put_numbered t act.exec act.view act.round (told_round act.round act.told act.proposal) act.found refl refl })
@@ -138,21 +147,25 @@ module _ (r : WardenRules) (Got : NodeId → Body → Type 0) (s s' : WardenStat
   act_numbered (Counts_fenced act) t = rw act.state (record { numbered = t.numbered })
   act_numbered (Ends_truncation act) t = rw act.state (record { numbered = t.numbered })
 
-  put_proposed : (x y : Exec) (v u : ℕ) (a new : Round) (p : Proposal) → round_of x v s.rounds ≡ Some a → new.exec ≡ a.exec → new.view ≡ a.view → ((q : Proposal) → a.proposal ≡ Some q → new.proposal ≡ Some q) → Proposed y u p s.rounds → Proposed y u p (with_round x v new s.rounds)
+  put_proposed : (x y : Exec) (v u : ℕ) (a new : Round) (p : Proposal) → round_of x v s.rounds ≡ Some a → new.exec ≡ a.exec → new.view ≡ a.view →
+      ((q : Proposal) → a.proposal ≡ Some q → new.proposal ≡ Some q) → Proposed y u p s.rounds → Proposed y u p (with_round x v new s.rounds)
   put_proposed x y v u a new p q e f k h = let g = round_found x v s.rounds a q in go g (put_kept x y v u new s.rounds a h.0 (e ∙ g.1) (f ∙ g.2) q h.1)
     where
-      go : IsIn a s.rounds × (a.exec ≡ x) × (a.view ≡ v) → (round_of y u (with_round x v new s.rounds) ≡ Some h.0) ⊎ ((y ≡ x) × (u ≡ v)) → Proposed y u p (with_round x v new s.rounds)
+      go : IsIn a s.rounds × (a.exec ≡ x) × (a.view ≡ v) → (round_of y u (with_round x v new s.rounds) ≡ Some h.0) ⊎ ((y ≡ x) × (u ≡ v)) →
+          Proposed y u p (with_round x v new s.rounds)
       go g (inl z) = (h.0, z, h.2)
       go g (inr z) = let same : Some a ≡ Some h.0 = sym q ∙ sym (ap (λ (y : Exec). round_of y v s.rounds) z.0) ∙ sym (ap (λ (u : ℕ). round_of y u s.rounds) z.1) ∙ h.1 in
           let same2 : a ≡ h.0 = cc in
           (new, subst (λ (y : Exec). round_of y u (with_round x v new s.rounds) ≡ Some new) (sym z.0) (subst (λ (u : ℕ). round_of x u (with_round x v new s.rounds) ≡ Some new) (sym z.1) (put_found x v new s.rounds a (e ∙ g.1) (f ∙ g.2) q)), k p (rw same2 h.2))
 
-  pub act_proposed : WardenAct r Got s s' sent → WRec r.wardens r.warden s → (y : Exec) (u : ℕ) (p : Proposal) → Proposed y u p s.rounds → Proposed y u p s'.rounds
+  pub act_proposed : WardenAct r Got s s' sent → WRec r.wardens r.warden s → (y : Exec) (u : ℕ) (p : Proposal) → Proposed y u p s.rounds →
+      Proposed y u p s'.rounds
   unfolding recover next_view
   act_proposed (Rests act) t y u p h = rw act.state h
   act_proposed (Asks act) t y u p h = rw act.state (h.0, go (same_exec y act.exec && (r.warden + used act.exec s.rounds * r.wardens == u)) refl, h.2)
     where
-      go : (z : Bool) → (same_exec y act.exec && (r.warden + used act.exec s.rounds * r.wardens == u)) ≡ z → cond z (Some (record { exec = act.exec; view = r.warden + used act.exec s.rounds * r.wardens; tolds = []; proposal = None; accepts = [] })) (round_of y u s.rounds) ≡ Some h.0
+      go : (z : Bool) → (same_exec y act.exec && (r.warden + used act.exec s.rounds * r.wardens == u)) ≡ z →
+          cond z (Some (record { exec = act.exec; view = r.warden + used act.exec s.rounds * r.wardens; tolds = []; proposal = None; accepts = [] })) (round_of y u s.rounds) ≡ Some h.0
       go false f = h.1
       go true f = let g = round_found y u s.rounds h.0 h.1 in let k = t.numbered h.0 g.0 in
           let same : h.0.exec ≡ act.exec = g.1 ∙ exec_is y act.exec (and_left _ _ f) in
@@ -210,7 +223,9 @@ module _ (r : WardenRules) (Got : NodeId → Body → Type 0) (s s' : WardenStat
   ]
   ward_new (Counts_accepted act) b i = elim act.outcome [ inl w ↦ absurd (rw w.1 at i) | inr w ↦ go w.0 (rw w.2 at i) ]
     where
-      go : s'.decisions ≡ record { exec = act.exec; proposal = act.proposal } ∷ s.decisions → (b ≡ To_all (Decide act.exec act.proposal.choice act.proposal.content)) ⊎ IsIn b (to_client r act.exec (Decide act.exec act.proposal.choice act.proposal.content)) → WFact r.wardens r.warden s' (parcel_body b)
+      go : s'.decisions ≡ record { exec = act.exec; proposal = act.proposal } ∷ s.decisions →
+          (b ≡ To_all (Decide act.exec act.proposal.choice act.proposal.content)) ⊎ IsIn b (to_client r act.exec (Decide act.exec act.proposal.choice act.proposal.content)) →
+          WFact r.wardens r.warden s' (parcel_body b)
       go e (inl z) = rw (z, e) (inl refl)
       go e (inr z) = rw (to_client_body act.exec (Decide act.exec act.proposal.choice act.proposal.content) b z, e) (inl refl)
   ward_new (Begins_truncation act) b i = only _ act.sends tt b i

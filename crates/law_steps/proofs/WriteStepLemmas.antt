@@ -50,7 +50,9 @@ pub relabels : (r : Rules) (c : ClientState) (i : ℕ) (a : Answer) → (answer_
 relabels r c i a e = goes_on r c (with_answer c i a) (λ z. record { exec = refl; running = z; begun = refl; more = []; answers = values_set c.answers i a e ∙ sym (append-nil (values c.answers)) })
 
 -- the writes of an execution that runs go out
-pub puts_writes : (r : Rules) (c : ClientState) (t : Bool) (rest : List Body) → IsRunning c.phase → ((b : Body) → IsIn b rest → IsOther b) → (c' : ClientState) → Continues c c' → IsRunning c'.phase → (walk r c').writes ≡ (walk r c).writes → WriteStep r c c' (one_when t (Puts c.exec (walk r c).writes) ++ rest)
+pub puts_writes : (r : Rules) (c : ClientState) (t : Bool) (rest : List Body) → IsRunning c.phase → ((b : Body) → IsIn b rest → IsOther b) →
+    (c' : ClientState) → Continues c c' → IsRunning c'.phase → (walk r c').writes ≡ (walk r c).writes →
+    WriteStep r c c' (one_when t (Puts c.exec (walk r c).writes) ++ rest)
 puts_writes r c t rest run other c' on run' same = record {
   grows = λ z. inl on;
   puts = λ x ws i. elim (IsIn-cases (Puts x ws) (one_when t (Puts c.exec (walk r c).writes)) rest i) [
@@ -73,7 +75,8 @@ other_question x (Some k) b (inl z) = subst IsOther (sym z) tt
 other_question x (Some k) b (inr z) = absurd z
 
 -- its content is prepared
-pub prepares_writes : (r : Rules) (c c' : ClientState) (e : Ending) → (walk r c).ending ≡ Some e → IsRunning c.phase → (IsRunning c'.phase → ⊥) → WriteStep r c c' (Prepare c.exec (content r c e) ∷ [])
+pub prepares_writes : (r : Rules) (c c' : ClientState) (e : Ending) → (walk r c).ending ≡ Some e → IsRunning c.phase → (IsRunning c'.phase → ⊥) →
+    WriteStep r c c' (Prepare c.exec (content r c e) ∷ [])
 prepares_writes r c c' e q run n = record {
   grows = λ z. absurd (n z);
   puts = λ x ws i. elim i [ inl z ↦ cc | inr z ↦ absurd z ];
