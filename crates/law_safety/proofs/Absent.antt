@@ -22,7 +22,8 @@ pub record Absent (p : Plan) (w : World) : Type 0 where
 
 pub absent_reach : (p : Plan) (w : World) → Reach p w → Absent p w
 absent_reach p w q = record {
-  client = on_clients p (λ w c s. (s ≡ fresh_client) ⊎ (in_range c (length p.clients) ≡ true)) (λ c. inl refl) (λ w w' st c s k. k) (λ w w' q s k. inr s.real) w q;
+  client =
+      on_clients p (λ w c s. (s ≡ fresh_client) ⊎ (in_range c (length p.clients) ≡ true)) (λ c. inl refl) (λ w w' st c s k. k) (λ w w' q s k. inr s.real) w q;
   replica = on_replicas p (λ w r h. (h ≡ []) ⊎ (in_range r p.replicas ≡ true)) (λ r. inl refl) (λ w w' st r h k. k) (λ w w' q s k. inr s.real) w q;
   warden = on_wardens p (λ w k s. (s ≡ fresh_warden) ⊎ (in_range k p.wardens ≡ true)) (λ k. inl refl) (λ w w' st k s z. z) (λ w w' q s k. inr s.real) w q;
 }
@@ -46,7 +47,8 @@ in_upto : (k n : ℕ) → in_range k n ≡ true → IsIn k (upto n)
 in_upto k n e = upto_in n k (lt_is 0 k (and_left (nat_lt 0 k) (nat_le k n) e)) (le_is k n (and_right (nat_lt 0 k) (nat_le k n) e))
 
 in_nodes : (p : Plan) (n : NodeId) → exists p n ≡ true → IsIn n (nodes p)
-in_nodes p (Client c) e = IsIn-left (Client c) (map Client (upto (length p.clients))) _ (map_in Client (upto (length p.clients)) c (in_upto c (length p.clients) e))
+in_nodes p (Client c) e =
+    IsIn-left (Client c) (map Client (upto (length p.clients))) _ (map_in Client (upto (length p.clients)) c (in_upto c (length p.clients) e))
 in_nodes p (Replica r) e = IsIn-right (Replica r) (map Client (upto (length p.clients))) _ (IsIn-left (Replica r) (map Replica (upto p.replicas)) _ (map_in Replica (upto p.replicas) r (in_upto r p.replicas e)))
 in_nodes p (Warden k) e = IsIn-right (Warden k) (map Client (upto (length p.clients))) _ (IsIn-right (Warden k) (map Replica (upto p.replicas)) _ (map_in Warden (upto p.wardens) k (in_upto k p.wardens e)))
 

@@ -42,7 +42,8 @@ entry_write y i (w ∷ ws) d (inr j) = let k = entry_write y (suc i) ws d j in (
 pub write_entry : (y : Exec) (i : ℕ) (ws : List Write) (w : Write) → IsIn w ws →
     (d : BaseEntry) × IsIn d (entries_of y i ws) × (d.key ≡ w.key) × (d.wid.ver ≡ y.ver)
 write_entry y i [] w j = absurd j
-write_entry y i (v ∷ ws) w (inl e) = (record { key = v.key; wid = record { ver = y.ver; eid = y.eid; seq = i }; value = v.value }, inl refl, ap (λ (z : Write). z.key) (sym e), refl)
+write_entry y i (v ∷ ws) w (inl e) =
+    (record { key = v.key; wid = record { ver = y.ver; eid = y.eid; seq = i }; value = v.value }, inl refl, ap (λ (z : Write). z.key) (sym e), refl)
 write_entry y i (v ∷ ws) w (inr j) = let k = write_entry y (suc i) ws w j in (k.0, inr k.1, k.2, k.3)
 
 or_left : (a b : Bool) → (a || b) ≡ false → a ≡ false
@@ -89,7 +90,8 @@ base_conflict x k y l v bs up above c holds low = go (misses x.ver k y.ver l.wri
 
     go : (t : Bool) → misses x.ver k y.ver l.writes ≡ t → (t || misses y.ver l x.ver k.writes) ≡ true → list_any (conflicts_with_base x.ver k) bs ≡ true
     go true q z = hit q
-    go false q z = absurd (true_false (sym (then_before y.ver v y.ver up (before_then v x.ver y.ver above (up_of (and_left (before x.ver y.ver) _ z)))) ∙ self y.ver))
+    go false q z =
+        absurd (true_false (sym (then_before y.ver v y.ver up (before_then v x.ver y.ver above (up_of (and_left (before x.ver y.ver) _ z)))) ∙ self y.ver))
       where
         up_of : before x.ver y.ver ≡ true → UpTo x.ver y.ver
         up_of e = before_up_to x.ver y.ver e
@@ -125,12 +127,15 @@ dropped_conflict w t h mail x k above y l o d p a u c =
 -- the names of an execution's writes
 pub entry_wid : (x : Exec) (i : ℕ) (ws : List Write) (d : BaseEntry) → IsIn d (entries_of x i ws) → (d.wid.ver ≡ x.ver) × (d.wid.eid ≡ x.eid) × (i ≤ d.wid.seq)
 entry_wid x i [] d j = absurd j
-entry_wid x i (w ∷ ws) d (inl e) = (ap (λ (z : BaseEntry). z.wid.ver) e, ap (λ (z : BaseEntry). z.wid.eid) e, let f = ap (λ (z : BaseEntry). z.wid.seq) e in omega (arith, f))
+entry_wid x i (w ∷ ws) d (inl e) =
+    (ap (λ (z : BaseEntry). z.wid.ver) e, ap (λ (z : BaseEntry). z.wid.eid) e, let f = ap (λ (z : BaseEntry). z.wid.seq) e in omega (arith, f))
 entry_wid x i (w ∷ ws) d (inr j) = let k = entry_wid x (suc i) ws d j in (k.0, k.1, let l = k.2 in omega (arith, l))
 
 pub rising_one : (bs : List BaseEntry) → IsRising bs → (d e : BaseEntry) → IsIn d bs → IsIn e bs → d.key ≡ e.key → d ≡ e
 rising_one [] r d e i j f = absurd i
 rising_one (b ∷ bs) r d e (inl x) (inl y) f = x ∙ sym y
-rising_one (b ∷ bs) r d e (inl x) (inr j) f = absurd (true_false (sym (subst (λ (y : Key). key_before y e.key ≡ true) (ap (λ (y : BaseEntry). y.key) (sym x) ∙ f) (r.0 e j)) ∙ key_irreflexive e.key))
-rising_one (b ∷ bs) r d e (inr i) (inl y) f = absurd (true_false (sym (subst (λ (y : Key). key_before y d.key ≡ true) (ap (λ (y : BaseEntry). y.key) (sym y) ∙ sym f) (r.0 d i)) ∙ key_irreflexive d.key))
+rising_one (b ∷ bs) r d e (inl x) (inr j) f =
+    absurd (true_false (sym (subst (λ (y : Key). key_before y e.key ≡ true) (ap (λ (y : BaseEntry). y.key) (sym x) ∙ f) (r.0 e j)) ∙ key_irreflexive e.key))
+rising_one (b ∷ bs) r d e (inr i) (inl y) f =
+    absurd (true_false (sym (subst (λ (y : Key). key_before y d.key ≡ true) (ap (λ (y : BaseEntry). y.key) (sym y) ∙ sym f) (r.0 d i)) ∙ key_irreflexive d.key))
 rising_one (b ∷ bs) r d e (inr i) (inr j) f = rising_one bs r.1 d e i j f

@@ -33,7 +33,8 @@ module _ (p : Plan) (pos : 0 < p.replicas) (w : World) (q : Reach p w) where
       let i = entry_wid a.exec 1 a.content.writes d a.entry in
       let j = entry_wid b.exec 1 b.content.writes e b.entry in
       let same : a.exec ≡ b.exec = exec_of a.exec b.exec (ap (λ (z : Version). z.ts) (sym i.0) ∙ n.0 ∙ ap (λ (z : Version). z.ts) j.0) (ap (λ (z : Version). z.client) (sym i.0) ∙ n.1 ∙ ap (λ (z : Version). z.client) j.0) (sym i.1 ∙ n.2 ∙ j.1) in
-      let kept : a.content ≡ b.content = same_prepared p w q b.exec a.content b.content (subst (λ (z : Exec). WasSent w (Prepare z a.content)) same a.prepared) b.prepared in
+      let kept : a.content ≡ b.content =
+      same_prepared p w q b.exec a.content b.content (subst (λ (z : Exec). WasSent w (Prepare z a.content)) same a.prepared) b.prepared in
       entry_one b.exec 1 b.content.writes d e (subst (λ (z : Content). IsIn d (entries_of b.exec 1 z.writes)) kept (subst (λ (z : Exec). IsIn d (entries_of z 1 a.content.writes)) same a.entry)) b.entry n.3
 
   into : (v : Version) (bs cs : List BaseEntry) → IsBase w v bs → IsBase w v cs → (d : BaseEntry) → IsIn d bs → IsIn d cs

@@ -65,7 +65,8 @@ put_of b (c ∷ cs) d i = go (put_of b cs d) (same_key b.key c.key) (wid_before 
 
 pub puts_of : (cs bs : List BaseEntry) (d : BaseEntry) → IsIn d (put_entries cs bs) → IsIn d cs ⊎ IsIn d bs
 puts_of cs [] d i = inl i
-puts_of cs (b ∷ bs) d i = elim (puts_of (put_entry b cs) bs d i) [ inl j ↦ elim (put_of b cs d j) [ inl z ↦ inr (inl z) | inr k ↦ inl k ] | inr j ↦ inr (inr j) ]
+puts_of cs (b ∷ bs) d i =
+    elim (puts_of (put_entry b cs) bs d i) [ inl j ↦ elim (put_of b cs d j) [ inl z ↦ inr (inl z) | inr k ↦ inl k ] | inr j ↦ inr (inr j) ]
 
 -- the base that is put together is rising by key
 put_rising : (b : BaseEntry) (cs : List BaseEntry) → IsRising cs → IsRising (put_entry b cs)
@@ -76,7 +77,8 @@ put_rising b (c ∷ cs) r = go (put_rising b cs r.1) (same_key b.key c.key) refl
         IsRising (cond t (cond u (b ∷ cs) (c ∷ cs)) (cond k (b ∷ c ∷ cs) (c ∷ put_entry b cs)))
     go ih true e true k f = (λ d i. subst (λ (y : Key). key_before y d.key ≡ true) (sym (key_is b.key c.key e)) (r.0 d i), r.1)
     go ih true e false k f = r
-    go ih false e u true f = (λ d i. elim i [ inl z ↦ subst (λ (y : BaseEntry). key_before b.key y.key ≡ true) (sym z) f | inr j ↦ key_trans b.key c.key d.key f (r.0 d j) ], r)
+    go ih false e u true f =
+        (λ d i. elim i [ inl z ↦ subst (λ (y : BaseEntry). key_before b.key y.key ≡ true) (sym z) f | inr j ↦ key_trans b.key c.key d.key f (r.0 d j) ], r)
     go ih false e u false f = (λ d i. elim (put_of b cs d i) [ inl z ↦ subst (λ (y : BaseEntry). key_before c.key y.key ≡ true) (sym z) (key_order b.key c.key e f) | inr j ↦ r.0 d j ], ih)
 
 pub puts_rising : (cs bs : List BaseEntry) → IsRising cs → IsRising (put_entries cs bs)

@@ -37,7 +37,8 @@ module _ (p : Plan) (pos : 0 < p.replicas) (w : World) (q : Reach p w) where
   written_entry v d y =
       let c = listed_all p pos w q y.exec y.committed in
       let a = listed_only p pos w q c.0 c.1 in
-      let k : y.content ≡ c.0.content = same_prepared p w q y.exec y.content c.0.content y.prepared (subst (λ (x : Exec). WasSent w (Prepare x c.0.content)) c.2 a.prepared) in
+      let k : y.content ≡ c.0.content =
+      same_prepared p w q y.exec y.content c.0.content y.prepared (subst (λ (x : Exec). WasSent w (Prepare x c.0.content)) c.2 a.prepared) in
       let j : IsIn d (entries_of c.0.exec 1 c.0.content.writes) = subst (λ (l : Content). IsIn d (entries_of c.0.exec 1 l.writes)) k (subst (λ (x : Exec). IsIn d (entries_of x 1 y.content.writes)) (sym c.2) y.entry) in
       let low : before v c.0.exec.ver ≡ false = subst (λ (x : Exec). before v x.ver ≡ false) (sym c.2) y.upto in
       flat_map_in (λ (k : Kept). cond (before v k.exec.ver) [] (entries_of k.exec 1 k.content.writes)) (map kept_of (committed_executions p w)) (kept_of c.0) d (map_in kept_of (committed_executions p w) c.0 c.1)

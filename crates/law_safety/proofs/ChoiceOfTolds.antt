@@ -167,7 +167,8 @@ module _ (p : Plan) (w : World) (q : Reach p w) (s : Safe p.replicas w) (x : Exe
   order i j = grind arith
 
   same_view : (u u' : ℕ) (c d : Choice) (o o' : Option Content) → WasSent w (Finalize x u c o) → WasSent w (Finalize x u' d o') → u ≡ u' → c ≡ d
-  same_view u u' c d o o' a b e = (one_view p w q a.envelope b.envelope x u c d o o' a.there b.there a.body (b.body ∙ ap (λ (z : ℕ). Finalize x z d o') (sym e))).0
+  same_view u u' c d o o' a b e =
+      (one_view p w q a.envelope b.envelope x u c d o o' a.there b.there a.body (b.body ∙ ap (λ (z : ℕ). Finalize x z d o') (sym e))).0
 
   one_of : (P : ℕ → Type 0) → Quorum p.replicas P → (r : ℕ) × P r
   one_of P a = let m = quorums_meet p.replicas P P a a in (m.0, m.1)
@@ -220,7 +221,8 @@ module _ (p : Plan) (w : World) (q : Reach p w) (s : Safe p.replicas w) (x : Exe
           by_order (inl h) = let t = accept_told ts a g in let k = (facts t.0 t.1).1.told.backed a t.2 in let z = accepted_sent p w q x a.view a.choice t.0.replica (k.0, k.1, k.2, k.3, k.4) in s.proposals.below x a.view a.choice z.0 z.1 u h
           by_order (inr (inl h)) = let t = accept_told ts a g in let k = (facts t.0 t.1).1.told.backed a t.2 in let z = accepted_sent p w q x a.view a.choice t.0.replica (k.0, k.1, k.2, k.3, k.4) in teller_closed u a.choice l (λ c r t h'. let y = accepted_sent p w q x u c r h' in same_view u a.view c a.choice y.0 z.0 y.1 z.1 h)
           by_order (inr (inr h)) = teller_closed u a.choice l (λ c r t h'. let m = told_above u c r l t h' in let e : Some a ≡ Some m.0 = sym g ∙ m.1 in let e2 : a ≡ m.0 = cc in let e3 = ap (λ (z : Accept). z.view) e2 in let l2 = m.2 in absurd (omega (arith, e3, l2, h)))
-      go None f None g b = teller_closed u (fixed_choice None None b) l (λ c r t h'. let m = told_above u c r l t h' in let e : None ≡ Some m.0 = sym g ∙ m.1 in cc)
+      go None f None g b =
+          teller_closed u (fixed_choice None None b) l (λ c r t h'. let m = told_above u c r l t h' in let e : None ≡ Some m.0 = sym g ∙ m.1 in cc)
 
   pub chosen_abandon : chosen ts ≡ Abandon → ((u : Option Content) × WasSent w (Finalize x 0 Abandon u)) ⊎ ((r : ℕ) × (0 < r) × (r ≤ p.replicas) × Shut w x r)
   chosen_abandon e = go (told_decision ts) refl (told_accept ts) refl (list_all told_commit ts) refl e
@@ -244,5 +246,6 @@ module _ (p : Plan) (w : World) (q : Reach p w) (s : Safe p.replicas w) (x : Exe
           fixed_choice d a b ≡ ToCommit → Quorum p.replicas (VotedCommit w x)
       go (Some d) f a g b h e = let t = decision_told ts d f in let k = decided_sent p w q x d t.0.replica ((facts t.0 t.1).1.told.decided d t.2) in (s.committed x k.0 (subst (λ z. WasSent w (Decide x z k.0)) e k.1)).1
       go None f (Some a) g b h e = let t = accept_told ts a g in let k = (facts t.0 t.1).1.told.backed a t.2 in let z = accepted_sent p w q x a.view a.choice t.0.replica (k.0, k.1, k.2, k.3, k.4) in s.proposals.commit x a.view z.0 (subst (λ y. WasSent w (Finalize x a.view y z.0)) e z.1)
-      go None f None g true h e = quorum_map p.replicas _ _ (λ r t. subst (VotedCommit w x) t.2 ((facts t.0 t.1).1.told.vote ∙ commit_is t.0.vote (all_told ts t.0 h t.1))) tellers
+      go None f None g true h e =
+          quorum_map p.replicas _ _ (λ r t. subst (VotedCommit w x) t.2 ((facts t.0 t.1).1.told.vote ∙ commit_is t.0.vote (all_told ts t.0 h t.1))) tellers
       go None f None g false h e = cc

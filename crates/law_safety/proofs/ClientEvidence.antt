@@ -40,7 +40,8 @@ pub record Evident (n : ℕ) (w : World) (s : ClientState) : Type 0 where
   pub phase : (k : Content) (vs : List CountedVote) (o : Option Choice) (acs : List ℕ) → s.phase ≡ Prepared k vs o acs → Evidence n w s.exec k vs o acs
 
 pub accepted_fact_grows : (p : Plan) (w w' : World) → Step p w w' → (x : Exec) (v r : ℕ) → AcceptedFact (w.replica r) x v → AcceptedFact (w'.replica r) x v
-accepted_fact_grows p w w' s x v r f = replica_grows p w w' s (λ h. AcceptedFact h x v) (λ h m k. (k.0, IsIn-right k.0 (new_acceptance h m.body) (acceptances h) k.1, k.2, k.3)) r f
+accepted_fact_grows p w w' s x v r f =
+    replica_grows p w w' s (λ h. AcceptedFact h x v) (λ h m k. (k.0, IsIn-right k.0 (new_acceptance h m.body) (acceptances h) k.1, k.2, k.3)) r f
 
 evidence_grows : (p : Plan) (w w' : World) → Step p w w' → (x : Exec) (k : Content) (vs : List CountedVote) (o : Option Choice) (acs : List ℕ) →
     Evidence p.replicas w x k vs o acs → Evidence p.replicas w' x k vs o acs
@@ -56,7 +57,8 @@ evidence_grows p w w' s x k vs o acs e = record {
 -- a new state is evident in the new world, where the old one was in it, and what the act sent is there
 act_evident : (p : Plan) (w w' : World) → Reach p w → Step p w w' → (c : ℕ) (s : ClientState) (sent : List Body) → ((b : Body) → IsIn b sent → WasSent w' b) →
     ClientAct (rules p c) (GotAt w c) (w.client c) s sent → Evident p.replicas w' (w.client c) → Evident p.replicas w' s
-act_evident p w w' q st c s sent new (Quiet act) t = record { phase = λ k vs o acs h. rw act.exec (t.phase k vs o acs (same (w.client c).phase act.stage k vs o acs h)) }
+act_evident p w w' q st c s sent new (Quiet act) t =
+    record { phase = λ k vs o acs h. rw act.exec (t.phase k vs o acs (same (w.client c).phase act.stage k vs o acs h)) }
   where
     same : (z : Phase) → SameStage z s.phase → (k : Content) (vs : List CountedVote) (o : Option Choice) (acs : List ℕ) → s.phase ≡ Prepared k vs o acs →
         z ≡ Prepared k vs o acs
@@ -167,7 +169,8 @@ act_decisions p w w' st c s sent new a t = go a
     go (Proposes act) = same act.decisions
     go (Accepts act) = same act.decisions
     go (Decides act) = more (record { exec = (w.client c).exec; choice = act.choice }) act.decisions (content_for act.content act.choice) (new (Decide (w.client c).exec act.choice (content_for act.content act.choice)) (rw act.sends (inl refl)))
-    go (Gives_up act) = more (record { exec = (w.client c).exec; choice = Abandon }) act.decisions None (new (Decide (w.client c).exec Abandon None) (rw act.sends (inl refl)))
+    go (Gives_up act) =
+        more (record { exec = (w.client c).exec; choice = Abandon }) act.decisions None (new (Decide (w.client c).exec Abandon None) (rw act.sends (inl refl)))
     go (Learns act) = more (record { exec = (w.client c).exec; choice = act.choice }) act.decisions act.content (sent_grows p w w' st _ (record { envelope = act.got.0; there = act.got.1; body = act.got.4 }))
 
 pub decisions_reach : (p : Plan) → 0 < p.replicas → (w : World) → Reach p w → (c : ℕ) → DecisionsSent w (w.client c)

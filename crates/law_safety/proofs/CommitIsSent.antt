@@ -58,12 +58,14 @@ module _ (p : Plan) (pos : 0 < p.replicas) (w : World) (q : Reach p w) where
     where
       go : (n : NodeId) → c.1.envelope.from ≡ n → Committed w x
       go (Client j) f =
-          let i : IsIn (record { exec = x; choice = ToCommit }) (w.client j).decisions = subst (CFact j (w.client j)) c.1.body ((client_facts_reach p w q).said c.1.envelope j c.1.there f) in
+          let i : IsIn (record { exec = x; choice = ToCommit }) (w.client j).decisions =
+          subst (CFact j (w.client j)) c.1.body ((client_facts_reach p w q).said c.1.envelope j c.1.there f) in
           let d = some_from (find (λ (y : Decision). same_exec x y.exec) (w.client j).decisions) (find_in (λ (y : Decision). y.exec) x (w.client j).decisions (record { exec = x; choice = ToCommit }) i refl) in
           decides_it (Client j) x c d.0.choice (ap (λ (o : Option Decision). option_map (λ (y : Decision). y.choice) o) d.1)
       go (Replica r) f = absurd (subst (RFact r (w.replica r)) c.1.body ((facts_reach p w q).said c.1.envelope r c.1.there f))
       go (Warden k) f =
-          let i : IsIn (record { exec = x; proposal = record { choice = ToCommit; content = c.0 } }) (w.warden k).decisions = subst (WFact p.wardens k (w.warden k)) c.1.body ((ward_facts_reach p w q).said c.1.envelope k c.1.there f) in
+          let i : IsIn (record { exec = x; proposal = record { choice = ToCommit; content = c.0 } }) (w.warden k).decisions =
+          subst (WFact p.wardens k (w.warden k)) c.1.body ((ward_facts_reach p w q).said c.1.envelope k c.1.there f) in
           let d = some_from (decision_on (w.warden k) x) (find_in (λ (y : DecidedProposal). y.exec) x (w.warden k).decisions (record { exec = x; proposal = record { choice = ToCommit; content = c.0 } }) i refl) in
           decides_it (Warden k) x c d.0.proposal.choice (ap (λ (o : Option DecidedProposal). option_map (λ (y : DecidedProposal). y.proposal.choice) o) d.1)
 

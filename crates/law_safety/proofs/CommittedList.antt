@@ -91,7 +91,8 @@ sorted_from d (c ∷ cs) i = elim (put_from c d (sorted_committed cs) i) [ inl z
 sorted_lists : (d : CommittedExec) (cs : List CommittedExec) → IsIn d cs → Lists (sorted_committed cs) d.exec
 unfolding Lists
 sorted_lists d [] i = absurd i
-sorted_lists d (c ∷ cs) (inl z) = subst (λ (y : CommittedExec). Lists (put_committed c (sorted_committed cs)) y.exec) (sym z) (put_lists c (sorted_committed cs))
+sorted_lists d (c ∷ cs) (inl z) =
+    subst (λ (y : CommittedExec). Lists (put_committed c (sorted_committed cs)) y.exec) (sym z) (put_lists c (sorted_committed cs))
 sorted_lists d (c ∷ cs) (inr i) = let h = sorted_lists d cs i in (h.0, put_stays c h.0 (sorted_committed cs) h.1, h.2)
 
 sorted_ordered : (cs : List CommittedExec) → IsRisingByExec (sorted_committed cs)
@@ -131,7 +132,8 @@ commit_choice (Some ToCommit) e = refl
 module _ (p : Plan) (pos : 0 < p.replicas) (w : World) (q : Reach p w) where
   is_committed_true : (x : Exec) → Committed w x → is_committed p w x ≡ true
   unfolding is_committed
-  is_committed_true x c = any_in (λ node. is_commit_choice (decided_by w node x)) (nodes p) c.node (decider p w q c.node x ToCommit c.decides) (ap is_commit_choice c.decides)
+  is_committed_true x c =
+      any_in (λ node. is_commit_choice (decided_by w node x)) (nodes p) c.node (decider p w q c.node x ToCommit c.decides) (ap is_commit_choice c.decides)
 
   is_committed_of : (x : Exec) → is_committed p w x ≡ true → Committed w x
   unfolding is_committed
@@ -153,7 +155,8 @@ module _ (p : Plan) (pos : 0 < p.replicas) (w : World) (q : Reach p w) where
   pub listed_only : (c : CommittedExec) → IsIn c (committed_executions p w) → IsCommittedAs w c
   unfolding committed_executions
   listed_only c i =
-      let m = IsIn-flat_map (λ (m : Envelope). committed_in p w m.body) c w.mail (sorted_from c (flat_map (λ (m : Envelope). committed_in p w m.body) w.mail) i) in
+      let m =
+      IsIn-flat_map (λ (m : Envelope). committed_in p w m.body) c w.mail (sorted_from c (flat_map (λ (m : Envelope). committed_in p w m.body) w.mail) i) in
       told_by m.0.body (record { envelope = m.0; there = m.1; body = refl }) c m.2
 
   pub listed_all : (x : Exec) → Committed w x → (c : CommittedExec) × IsIn c (committed_executions p w) × (c.exec ≡ x)
@@ -163,7 +166,8 @@ module _ (p : Plan) (pos : 0 < p.replicas) (w : World) (q : Reach p w) where
       let a = tried p pos w q x c in
       let b = attempt_finds x.ver (w.client x.ver.client).attempts a.0 a.1.begun a.1.version in
       let row : CommittedExec = record { exec = x; content = k.0; txn = b.0.txn; try = b.0.try } in
-      let here : IsIn row (committed_in p w (Prepare x k.0)) = subst (λ (z : Bool). IsIn row (cond z (of_attempt x k.0 (attempt_at w x.ver)) [])) (sym (is_committed_true x c))
+      let here : IsIn row (committed_in p w (Prepare x k.0)) =
+      subst (λ (z : Bool). IsIn row (cond z (of_attempt x k.0 (attempt_at w x.ver)) [])) (sym (is_committed_true x c))
       (subst (λ (o : Option Attempt). IsIn row (of_attempt x k.0 o)) (sym b.1) (inl refl)) in
       sorted_lists row (flat_map (λ (m : Envelope). committed_in p w m.body) w.mail)
       (flat_map_in (λ (m : Envelope). committed_in p w m.body) w.mail k.1.envelope row k.1.there (subst (λ (y : Body). IsIn row (committed_in p w y)) (sym k.1.body) here))
@@ -178,7 +182,8 @@ module _ (p : Plan) (pos : 0 < p.replicas) (w : World) (q : Reach p w) where
   -- a committed execution has one content, one transaction and one try
   as_one : (c d : CommittedExec) → IsCommittedAs w c → IsCommittedAs w d → c.exec ≡ d.exec → c ≡ d
   as_one c d i j e =
-      let k : c.content ≡ d.content = same_prepared p w q d.exec c.content d.content (subst (λ (x : Exec). WasSent w (Prepare x c.content)) e i.prepared) j.prepared in
+      let k : c.content ≡ d.content =
+      same_prepared p w q d.exec c.content d.content (subst (λ (x : Exec). WasSent w (Prepare x c.content)) e i.prepared) j.prepared in
       let a : i.attempt ≡ j.attempt = one_attempt p pos w q d.exec i.attempt j.attempt (subst (λ (x : Exec). IsOf w x i.attempt) e i.of_attempt) j.of_attempt in
       let n = i.txn ∙ ap (λ (y : Attempt). y.txn) a ∙ sym j.txn in
       let t = i.try ∙ ap (λ (y : Attempt). y.try) a ∙ sym j.try in

@@ -47,7 +47,8 @@ passed_distinct p [] d = tt
 passed_distinct p (b ∷ bs) d = go (passed_distinct p bs d.1) (p b.vote)
   where
     go : HasNoRepeats (passed p bs) → (t : Bool) → HasNoRepeats (cond t (b.replica ∷ passed p bs) (passed p bs))
-    go ih true = (λ i. let k = passed_in p bs b.replica i in d.0 (subst (λ (z : ℕ). IsIn z (map (λ (x : CountedVote). x.replica) bs)) k.2 (in_replicas bs k.0 k.1)), ih)
+    go ih true =
+        (λ i. let k = passed_in p bs b.replica i in d.0 (subst (λ (z : ℕ). IsIn z (map (λ (x : CountedVote). x.replica) bs)) k.2 (in_replicas bs k.0 k.1)), ih)
     go ih false = ih
 
 passed_length : (p : Vote → Bool) (bs : List CountedVote) → length (passed p bs) ≡ count_votes p bs

@@ -27,7 +27,8 @@ use Rattle.law_safety.proofs.CommitIsSent.{decided_by_sent, find_in}
 -- what a warden decided stays
 ward_decision_grows : (p : Plan) (w w' : World) → Reach p w → Step p w w' → (k : ℕ) (x : Exec) (d : Choice) (o : Option Content) →
     IsIn (record { exec = x; proposal = record { choice = d; content = o } }) (w.warden k).decisions → IsIn (record { exec = x; proposal = record { choice = d; content = o } }) (w'.warden k).decisions
-ward_decision_grows p w w' q st k x d o = warden_in_step p w w' st (λ j s. IsIn (record { exec = x; proposal = record { choice = d; content = o } }) s.decisions)
+ward_decision_grows p w w' q st k x d o =
+    warden_in_step p w w' st (λ j s. IsIn (record { exec = x; proposal = record { choice = d; content = o } }) s.decisions)
     (λ s. ward_stays (warden_rules p s.k) (HeardAt w s.k) (w.warden s.k) s.state s.sent (wardens_positive s.k p.wardens s.real) (wardens_range s.k p.wardens s.real) s.act (wrec_reach p w q s.k) (Decide x d o)) k
 
 -- the newest decision of a list that has one
@@ -76,4 +77,5 @@ module _ (p : Plan) (pos : 0 < p.replicas) where
       (λ u v g st k e. decision_stays u v (from_trans p first_world o u r g) st n x d (k e)) w f
 
 pub decisions_stay : DecisionsStay
-decisions_stay = always DecisionsStayOf (λ p some w q more n x choice e. decision_later p some w (replay_from p w more) q (events_reach p w w Begins more) n x choice e)
+decisions_stay =
+    always DecisionsStayOf (λ p some w q more n x choice e. decision_later p some w (replay_from p w more) q (events_reach p w w Begins more) n x choice e)

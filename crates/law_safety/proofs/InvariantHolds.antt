@@ -134,13 +134,16 @@ module _ (p : Plan) (pos : 0 < p.replicas) where
       member : (u : ℕ) → VotedCommit w y u → Shut w x u ⊎ AbandonLock p.replicas w x
       member u v =
           let c = cast_found y (casts (w.replica u)) Commit v in
-          let same : l ≡ c.0.content = same_prepared p w q y l c.0.content pr (subst (λ (z : Exec). WasSent w (Prepare z c.0.content)) c.2 (cast_sent p w q u c.0 c.1)) in
-          let g : conflicts x.ver k c.0.exec.ver c.0.content ≡ true = subst (λ (z : Content). conflicts x.ver k c.0.exec.ver z ≡ true) same (subst (λ (z : Exec). conflicts x.ver k z.ver l ≡ true) (sym c.2) f) in
+          let same : l ≡ c.0.content =
+          same_prepared p w q y l c.0.content pr (subst (λ (z : Exec). WasSent w (Prepare z c.0.content)) c.2 (cast_sent p w q u c.0 c.1)) in
+          let g : conflicts x.ver k c.0.exec.ver c.0.content ≡ true =
+          subst (λ (z : Content). conflicts x.ver k c.0.exec.ver z ≡ true) same (subst (λ (z : Exec). conflicts x.ver k z.ver l ≡ true) (sym c.2) f) in
           elim (is_commit (vote (w.replica u) x)) [
             | inr n ↦ inl (Conflicting n k t c.0 c.1 c.3 g cy.0 (subst (λ (z : Exec). WasSent w (Decide z ToCommit cy.0)) (sym c.2) cy.1))
             | inl e ↦
                 let d = cast_found x (casts (w.replica u)) Commit e in
-                let mine : k ≡ d.0.content = same_prepared p w q x k d.0.content t (subst (λ (z : Exec). WasSent w (Prepare z d.0.content)) d.2 (cast_sent p w q u d.0 d.1)) in
+                let mine : k ≡ d.0.content =
+                same_prepared p w q x k d.0.content t (subst (λ (z : Exec). WasSent w (Prepare z d.0.content)) d.2 (cast_sent p w q u d.0 d.1)) in
                 let h : conflicts d.0.exec.ver d.0.content c.0.exec.ver c.0.content ≡ true = subst (λ (z : Content). conflicts d.0.exec.ver z c.0.exec.ver c.0.content ≡ true) mine (subst (λ (z : Exec). conflicts z.ver k c.0.exec.ver c.0.content ≡ true) (sym d.2) g) in
                 elim (two_locked w q s u d.0 c.0 d.1 c.1 h (two u d.0 c.0 d.1 c.1 d.3 c.3 h)) [
                   | inl z ↦ inr (subst (λ (z : Exec). AbandonLock p.replicas w z) d.2 z)
@@ -180,7 +183,8 @@ module _ (p : Plan) (pos : 0 < p.replicas) where
 
   final_before : (w w' : World) (q : Reach p w) → Step p w w' → Safe p.replicas w → AllTwo w → (x : Exec) (r : ℕ) → vote (w'.replica r) x ≡ Some Final →
       AbandonLock p.replicas w x
-  final_before w w' q st s two x r = replica_in_step p w w' st (λ j h. vote h x ≡ Some Final → AbandonLock p.replicas w x) (λ t k. final_taking w q s two x t.r t.m t.in_mail) r (s.final x r)
+  final_before w w' q st s two x r =
+      replica_in_step p w w' st (λ j h. vote h x ≡ Some Final → AbandonLock p.replicas w x) (λ t k. final_taking w q s two x t.r t.m t.in_mail) r (s.final x r)
 
   -- Drops
   module _ (w w' : World) (q : Reach p w) (st : Step p w w') (s : Safe p.replicas w) where

@@ -190,7 +190,8 @@ module _ (p : Plan) (pos : 0 < p.replicas) (w w' : World) (q : Reach p w) (commi
       client cs (Weighed k vs u acs ph (One_final a b c) e f g k' z) =
           let v = a_final p.replicas w _ k vs u acs ((evident_reach p pos w q cs.c).phase k vs u acs ph) c in
           abandon_lock_stays p w w' q st commit_ground x (s.final x v.0 (subst (λ (y : Exec). vote (w.replica v.0) y ≡ Some Final) (sym e) v.1))
-      client cs (Weighed k vs u acs ph (By_quorum a b) e f g k' z) = abandon_lock_stays p w w' q st commit_ground x (Accepted_abandon 0 (weighed cs x Abandon k vs u acs ph a b e).0)
+      client cs (Weighed k vs u acs ph (By_quorum a b) e f g k' z) =
+          abandon_lock_stays p w w' q st commit_ground x (Accepted_abandon 0 (weighed cs x Abandon k vs u acs ph a b e).0)
       client cs (Gave_up run d e f g k' z) = gave_up cs x k' run e f g z
 
       go : Origin p w w' (Decide x Abandon o) → AbandonLock p.replicas w' x
@@ -207,7 +208,8 @@ module _ (p : Plan) (pos : 0 < p.replicas) (w w' : World) (q : Reach p w) (commi
 
       client : (cs : ByClientAct p w w') → DecisionOf p.replicas (w.client cs.c) cs.state cs.sent x ToCommit →
           CommitLock p.replicas w' x × Quorum p.replicas (VotedCommit w' x)
-      client cs (Weighed k vs u acs ph (All_commit a b c) e f g k' z) = fast cs x k' k vs acs (subst (λ (y : Option Choice). (w.client cs.c).phase ≡ Prepared k vs y acs) a ph) c e f g z
+      client cs (Weighed k vs u acs ph (All_commit a b c) e f g k' z) =
+          fast cs x k' k vs acs (subst (λ (y : Option Choice). (w.client cs.c).phase ≡ Prepared k vs y acs) a ph) c e f g z
       client cs (Weighed k vs u acs ph (One_final a b c) e f g k' z) = cc
       client cs (Weighed k vs u acs ph (By_quorum a b) e f g k' z) = let h = weighed cs x ToCommit k vs u acs ph a b e in (commit_lock_stays p w w' q st x (Accepted_commit 0 h.0), more (s.proposals.commit x 0 _ h.1))
       client cs (Gave_up run d e f g k' z) = cc

@@ -119,7 +119,8 @@ not_voted p w w' q st a x r k t c i v f o d n = replica_in_step p w w' st (λ j 
     cons m there tk e = elim (new_vote (w.replica r) m x Commit e) [
       | inl z ↦ n z
       | inr z ↦ let same : z.0 ≡ k = (one_reach p w q).prepare m t.envelope x z.0 k there t.there z.1 t.body in
-          let verd : verdict (w.replica r) (casts (w.replica r)) x k ≡ Commit = subst (λ (y : Content). verdict (w.replica r) (casts (w.replica r)) x y ≡ Commit) same z.2 in
+          let verd : verdict (w.replica r) (casts (w.replica r)) x k ≡ Commit =
+          subst (λ (y : Content). verdict (w.replica r) (casts (w.replica r)) x y ≡ Commit) same z.2 in
           elim (earlier_settled (w.replica r) x k c (well_reach p w q r) (a.content r c i) i v f verd) [
             | inl g ↦ let b = decided_sent p w q c.exec Abandon r g in a.agree c.exec b.0 o b.1 d
             | inr u ↦ true_false (sym (dropped_conflict w a.bases (w.replica r) (λ n j. ((took_reach p w q).took r n j).0) x k

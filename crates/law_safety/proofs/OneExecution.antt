@@ -55,7 +55,8 @@ fresh p w w' q st x k t = go (origin p w w' q st _ t)
     go (Of_client cs i) =
         let a = prepares_act (rules p cs.c) (GotAt w cs.c) (w.client cs.c) cs.state cs.sent cs.act x k i in
         let mine : x.ver.client ≡ cs.c = ap (λ (z : Exec). z.ver.client) a.0 ∙ (rec_reach p w q cs.c).own (running_under_way _ a.1) in
-        let after : (w'.client cs.c).exec ≡ (w.client cs.c).exec = ap (λ (f : ℕ → ClientState). (f cs.c).exec) cs.client ∙ ap (λ (z : ClientState). z.exec) (at_same cs.c cs.state w.client) ∙ a.2 in
+        let after : (w'.client cs.c).exec ≡ (w.client cs.c).exec =
+        ap (λ (f : ℕ → ClientState). (f cs.c).exec) cs.client ∙ ap (λ (z : ClientState). z.exec) (at_same cs.c cs.state w.client) ∙ a.2 in
         inr (subst (λ j. (x ≡ (w.client j).exec) × IsRunning (w.client j).phase × ((w'.client j).exec ≡ (w.client j).exec)) (sym mine) (a.0, a.1, after))
 
 -- what was prepared is not after the execution under way
@@ -121,7 +122,8 @@ module _ (p : Plan) (w w' : World) (q : Reach p w) (st : Step p w w') (c : ℕ) 
       go (inl e) = inl (subst (λ (z : ClientState). IsIn d z.attempts) e i)
       go (inr (Keeps e b a m k u)) = inl (subst (λ l. IsIn d l) a i)
       go (inr (Next_exec v b a m k run)) = inl (subst (λ l. IsIn d l) a i)
-      go (inr (Next_try z l a m k run)) = elim (subst (λ l. IsIn d l) a i) [ inl y ↦ inr (z, let f = ap (λ (x : Attempt). x.ver.ts) y in omega (arith, f, l)) | inr j ↦ inl j ]
+      go (inr (Next_try z l a m k run)) =
+          elim (subst (λ l. IsIn d l) a i) [ inl y ↦ inr (z, let f = ap (λ (x : Attempt). x.ver.ts) y in omega (arith, f, l)) | inr j ↦ inl j ]
 
   -- the attempt of what was prepared, or is running, was there before
   attempt_of : (x : Exec) (a : Attempt) → (IsEarlier x (w.client c).exec ⊎ (x ≡ (w.client c).exec)) → a.ver ≡ x.ver → IsIn a (w'.client c).attempts →
@@ -169,9 +171,11 @@ module _ (p : Plan) (w w' : World) (q : Reach p w) (st : Step p w w') (c : ℕ) 
         go t j (inr o) (inr (Keeps f b d m g u)) = absurd (earlier_not x o (subst (λ y. IsEarlier x y) f before))
         go t j (inl o) (inr (Next_exec f b d m g run)) = kept _ (s.past x k t e o a j v (n ∙ b))
         go t j (inr o) (inr (Next_exec f b d m (inl g) run)) = absurd (passed x k t e o g)
-        go t j (inr o) (inr (Next_exec f b d m (inr g) run)) = kept _ (subst (λ y. IsIn (record { exec = y; choice = Abandon }) (w.client c).decisions) (sym o) g.1)
+        go t j (inr o) (inr (Next_exec f b d m (inr g) run)) =
+            kept _ (subst (λ y. IsIn (record { exec = y; choice = Abandon }) (w.client c).decisions) (sym o) g.1)
         go t j (inl o) (inr (Next_try f l d m (inl g) run)) = kept _ (s.past x k t e o a j v (n ∙ g.0))
-        go t j (inr o) (inr (Next_try f l d m (inl g) run)) = kept _ (subst (λ y. IsIn (record { exec = y; choice = Abandon }) (w.client c).decisions) (sym o) ((try_rec p w q c).aborted f g.1))
+        go t j (inr o) (inr (Next_try f l d m (inl g) run)) =
+            kept _ (subst (λ y. IsIn (record { exec = y; choice = Abandon }) (w.client c).decisions) (sym o) ((try_rec p w q c).aborted f g.1))
         go t j o (inr (Next_try f l d m (inr g) run)) = let h = ((try_rec p w q c).bounded a j).1 in absurd (omega (arith, h, n, g))
 
         new : WasSent w (Prepare x k) ⊎ IsNew x → IsIn (record { exec = x; choice = Abandon }) (w'.client c).decisions
@@ -198,7 +202,8 @@ module _ (p : Plan) (w w' : World) (q : Reach p w) (st : Step p w w') (c : ℕ) 
         go (inr n) = let h = (try_rec p w q c).has (inl (running_under_way (w.client c).phase n.1)) in (h.0, kept_attempt h.0 h.1, h.2 ∙ ap (λ (z : Exec). z.ver) (sym n.0))
 
 pub single_reach : (p : Plan) (w : World) → Reach p w → (c : ℕ) → Single w c
-single_reach p w q c = on_worlds p first_world (λ v. Single v c) (record { past = λ x k t. absurd t.there; pairs = λ x y k l t. absurd t.there; has = λ x k t. absurd t.there })
+single_reach p w q c =
+    on_worlds p first_world (λ v. Single v c) (record { past = λ x k t. absurd t.there; pairs = λ x y k l t. absurd t.there; has = λ x k t. absurd t.there })
     (λ u v g st s. record { past = past_step p u v g st c s; pairs = pairs_step p u v g st c s; has = has_step p u v g st c s }) w q
 
 module _ (p : Plan) (pos : 0 < p.replicas) (w : World) (q : Reach p w) where

@@ -141,7 +141,8 @@ client_one p w w' q s t = record {
 
 pub one_reach : (p : Plan) (w : World) → Reach p w → One w
 one_reach p _ Begins = record { prepare = λ e f x k l i. absurd i; finalize = λ e f x d c o u i. absurd i }
-one_reach p _ (Next w w' q (Stands s)) = one_mute w w' [] (s.mail ∙ sym (append-nil w.mail)) (record { prepare = λ e x k i. absurd i; finalize = λ e x d o i. absurd i }) (one_reach p w q)
+one_reach p _ (Next w w' q (Stands s)) =
+    one_mute w w' [] (s.mail ∙ sym (append-nil w.mail)) (record { prepare = λ e x k i. absurd i; finalize = λ e x d o i. absurd i }) (one_reach p w q)
 one_reach p _ (Next w w' q (Client_acts s)) = client_one p w w' q s (one_reach p w q)
 one_reach p _ (Next w w' q (Replica_acts s)) = one_mute w w' _ s.mail (replica_mute p w w' (Next w w' q (Replica_acts s)) (Replica_acts s) _ s.mail s.r (λ e i. (spoken p.firsts s.r (w.replica s.r) s.m e i).0)) (one_reach p w q)
 one_reach p _ (Next w w' q (Warden_acts s)) = one_mute w w' _ s.mail (warden_mute p w w' (Next w w' q (Warden_acts s)) (Warden_acts s) _ s.mail s.k (λ e i. (from_parcels p.replicas (Warden s.k) s.sent e i).0)) (one_reach p w q)
@@ -155,7 +156,8 @@ one_view p w q e f x v d c o u i j a b = go (final_from p w q e x v d o i a) (fi
     zero_view k r range h z = let n = warden_view p w q k x v r h in let y : v ≡ k + n.0 * p.wardens = n.1 in let l = range.0 in omega (arith, y, l, z)
 
     go : FinalFrom p w e x v d o → FinalFrom p w f x v c u → (d ≡ c) × (o ≡ u)
-    go (By_client m z g) (By_client m' z' g') = (one_reach p w q).finalize e f x d c o u i j (a ∙ ap (λ (y : ℕ). Finalize x y d o) z) (b ∙ ap (λ (y : ℕ). Finalize x y c u) z)
+    go (By_client m z g) (By_client m' z' g') =
+        (one_reach p w q).finalize e f x d c o u i j (a ∙ ap (λ (y : ℕ). Finalize x y d o) z) (b ∙ ap (λ (y : ℕ). Finalize x y c u) z)
     go (By_client m z g) (By_warden k' m' range' r' h' g') = absurd (zero_view k' r' range' h' z)
     go (By_warden k m range r h g) (By_client m' z' g') = absurd (zero_view k r range h z')
     go (By_warden k m range r h g) (By_warden k' m' range' r' h' g') =

@@ -81,7 +81,8 @@ module _ (p : Plan) (pos : 0 < p.replicas) (w : World) (q : Reach p w) (s : Safe
     fact a i = ((ward_reach p pos w q k).trunc t there).answer a i
 
     answerers : Quorum p.replicas Answered
-    answerers = named_quorum (λ (a : FencedAnswer). a.replica) p.replicas t.answers ((ward_reach p pos w q k).trunc t there).answerers (λ a i. (fact a i).0) many
+    answerers =
+        named_quorum (λ (a : FencedAnswer). a.replica) p.replicas t.answers ((ward_reach p pos w q k).trunc t there).answerers (λ a i. (fact a i).0) many
 
     -- each committed execution at or below the version is named
     pub named_fact : (x : Exec) → UpTo x.ver t.w → CommitSent w x → IsNamedByAnswers w t x
@@ -186,7 +187,8 @@ module _ (p : Plan) (pos : 0 < p.replicas) (w : World) (q : Reach p w) (s : Safe
           go : Stand y → HasEntry (put_entries [] gathered) e
           go (In_committed a d j h z) =
               let g = ((fact a j).1.committed d h).0 in
-              let same : d.content ≡ l = same_prepared p w q y d.content l (subst (λ (v : Exec). WasSent w (Prepare v d.content)) z (commit_prepared a.replica d g)) pr in
+              let same : d.content ≡ l =
+              same_prepared p w q y d.content l (subst (λ (v : Exec). WasSent w (Prepare v d.content)) z (commit_prepared a.replica d g)) pr in
               hold (IsIn-right e (flat_map (λ (b : FencedAnswer). b.base) t.answers) _ (IsIn-left e (flat_map (λ (b : FencedAnswer). kept_entries t.w b.committed) t.answers) _
               (flat_map_in (λ (b : FencedAnswer). kept_entries t.w b.committed) t.answers a e j
               (flat_map_in (λ (b : Kept). cond (before t.w b.exec.ver) [] (entries_of b.exec 1 b.content.writes)) a.committed d e h

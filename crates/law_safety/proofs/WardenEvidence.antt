@@ -58,7 +58,8 @@ pub record WardEvident (n : ℕ) (w : World) (s : WardenState) : Type 0 where
   pub trunc : (t : Truncation) → IsIn t s.truncations → TruncEvidence n w t
 
 fenced_grows : (p : Plan) (w w' : World) → Step p w w' → (v : Version) (a : FencedAnswer) → FencedPartFact p.replicas w v a → FencedPartFact p.replicas w' v a
-fenced_grows p w w' s v a f = (f.0, replica_grows p w w' s (λ h. FencedFact h v a.base a.committed a.voted) (λ h m g. fenced_more h m v a.base a.committed a.voted g) a.replica f.1)
+fenced_grows p w w' s v a f =
+    (f.0, replica_grows p w w' s (λ h. FencedFact h v a.base a.committed a.voted) (λ h m g. fenced_more h m v a.base a.committed a.voted g) a.replica f.1)
 
 part_grows : (p : Plan) (w w' : World) → Step p w w' → (x : Exec) (v : ℕ) (t : ToldAnswer) → PartFact p.replicas w x v t → PartFact p.replicas w' x v t
 part_grows p w w' s x v t f = (f.0, replica_grows p w w' s (λ h. ToldFact h x v t.vote t.accepted t.decided t.content) (λ h m g. fact_cons t.replica h m (Told x v t.vote t.accepted t.decided t.content) g) t.replica f.1)
@@ -102,7 +103,8 @@ act_ward p w w' q st k s sent new (Asks act) t = rw act.state (record {
   trunc = t.trunc;
 })
 act_ward p w w' q st k s sent new (Counts_told act) t = rw act.state (record {
-  round = λ b i. elim (put_in act.exec act.view (told_round act.round act.told act.proposal) (w.warden k).rounds b i) [ inl z ↦ rw z fresh | inr j ↦ t.round b j ];
+  round =
+      λ b i. elim (put_in act.exec act.view (told_round act.round act.told act.proposal) (w.warden k).rounds b i) [ inl z ↦ rw z fresh | inr j ↦ t.round b j ];
   decision = t.decision;
   trunc = t.trunc;
 })
@@ -142,7 +144,8 @@ act_ward p w w' q st k s sent new (Counts_accepted act) t = record {
     decisions : ((s.decisions ≡ (w.warden k).decisions) × (sent ≡ [])) ⊎ ((s.decisions ≡ record { exec = act.exec; proposal = act.proposal } ∷ (w.warden k).decisions) × (quorum p.replicas ≤ suc (length act.round.accepts)) × (sent ≡ To_all (Decide act.exec act.proposal.choice act.proposal.content) ∷ to_client (warden_rules p k) act.exec (Decide act.exec act.proposal.choice act.proposal.content))) →
         (d : DecidedProposal) → IsIn d s.decisions → WasSent w' (Decide d.exec d.proposal.choice d.proposal.content)
     decisions (inl z) d i = t.decision d (rw z.0 at i)
-    decisions (inr z) d i = elim (rw z.0 at i) [ inl c ↦ rw c (new (Decide act.exec act.proposal.choice act.proposal.content) (rw z.2 (inl refl))) | inr m ↦ t.decision d m ]
+    decisions (inr z) d i =
+        elim (rw z.0 at i) [ inl c ↦ rw c (new (Decide act.exec act.proposal.choice act.proposal.content) (rw z.2 (inl refl))) | inr m ↦ t.decision d m ]
 act_ward p w w' q st k s sent new (Begins_truncation act) t = rw act.state (record { round = t.round; decision = t.decision; trunc = λ c i. elim i [ inl z ↦ rw z (record { answer = λ a j. absurd j; answerers = tt }) | inr j ↦ t.trunc c j ] })
 act_ward p w w' q st k s sent new (Counts_fenced act) t = rw act.state (record { round = t.round; decision = t.decision; trunc = λ d i. elim i [ inl z ↦ rw z fresh | inr j ↦ t.trunc d (rw act.truncations (inr j)) ] })
   where

@@ -23,7 +23,8 @@ to_client_body r x c b i = go (nat_lt 0 x.ver.client && nat_le x.ver.client r.cl
 
 -- the round that a warden decided
 abbrev pub DecidedRound : ℕ → WardenState → Exec → Choice → Option Content → Type 0
-DecidedRound n s x d o = (a : Round) × IsIn a s.rounds × (a.exec ≡ x) × ((y : Proposal) × (a.proposal ≡ Some y) × (y.choice ≡ d) × (quorum n ≤ length a.accepts) × (y.content ≡ o))
+DecidedRound n s x d o =
+    (a : Round) × IsIn a s.rounds × (a.exec ≡ x) × ((y : Proposal) × (a.proposal ≡ Some y) × (y.choice ≡ d) × (quorum n ≤ length a.accepts) × (y.content ≡ o))
 
 pub in_parcels : (ps : List Parcel) (c b : Parcel) → ps ≡ c ∷ [] → IsIn b ps → b ≡ c
 in_parcels ps c b e i = elim (subst (λ (l : List Parcel). IsIn b l) e i) [ inl z ↦ z | inr z ↦ absurd z ]

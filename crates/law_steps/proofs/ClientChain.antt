@@ -188,7 +188,8 @@ module _ (r : Rules) (Got : NodeId → Body → Type 0) where
     where
       go2 : (t : Bool) → nat_le (quorum r.replicas) (suc (length accepts)) ≡ t → Chain r Got c (prepared c k votes (Some d) (accepts ++ j ∷ [])) [] →
           Reaches c (turn_when t (prepared c k votes (Some d) (accepts ++ j ∷ [])) (decide r (prepared c k votes (Some d) (accepts ++ j ∷ [])) k d))
-      go2 true q s = decide_chain c _ k votes (Some d) (accepts ++ j ∷ []) d refl (By_quorum refl (let l = le_is _ _ q in rw length-append (omega (arith, l)))) s
+      go2 true q s =
+          decide_chain c _ k votes (Some d) (accepts ++ j ∷ []) d refl (By_quorum refl (let l = le_is _ _ q in rw length-append (omega (arith, l)))) s
       go2 false q s = s
 
       go : (t : Bool) → (same_exec x c.exec && ((view == 0) && not (list_any (λ i. i == j) accepts))) ≡ t →
@@ -264,7 +265,8 @@ module _ (r : Rules) (Got : NodeId → Body → Type 0) where
       go : (t : Bool) → (is_warden from && same_exec x c.exec) ≡ t → Reaches c (turn_when t c (conclude r c d []))
       go true q = conclude_chain c c d [] (learns c Live d (λ a. absurd a) from x content (prepared_under_way _ _ _ _ _ e) got q)
       go false q = Start
-  comes_prepared_chain c k votes None accepts from (Voted x v) e got = from_replica_chain c _ r.replicas from (λ j f range. counts_vote_chain c k votes accepts x j v e (subst (λ y. Got y (Voted x v)) f got) range)
+  comes_prepared_chain c k votes None accepts from (Voted x v) e got =
+      from_replica_chain c _ r.replicas from (λ j f range. counts_vote_chain c k votes accepts x j v e (subst (λ y. Got y (Voted x v)) f got) range)
   comes_prepared_chain c k votes (Some d) accepts from (Accepted x view) e got = from_replica_chain c _ r.replicas from (λ j f range. counts_accept_chain c k votes d accepts x view j e (subst (λ y. Got y (Accepted x view)) f got) range)
   comes_prepared_chain c k votes o accepts from _ e got = Start
 
@@ -287,7 +289,8 @@ module _ (r : Rules) (Got : NodeId → Body → Type 0) where
 
   on_hurry_chain : (c : ClientState) (p : Phase) (t : Turn) → c.phase ≡ p → on_hurry r c p ≡ Some t → Reaches c t
   unfolding on_hurry
-  on_hurry_chain c (Prepared k votes None accepts) t e q = subst (λ u. Reaches c u) (some_is q) (go (nat_le (quorum r.replicas) (count_votes is_commit_vote votes)) refl)
+  on_hurry_chain c (Prepared k votes None accepts) t e q =
+      subst (λ u. Reaches c u) (some_is q) (go (nat_le (quorum r.replicas) (count_votes is_commit_vote votes)) refl)
     where
       some_is : {A : Type 0} {a b : A} → Some a ≡ Some b → a ≡ b
       some_is e = cc

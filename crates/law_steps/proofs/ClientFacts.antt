@@ -84,7 +84,8 @@ module _ (r : Rules) (Got : NodeId → Body → Type 0) (s s' : ClientState) (se
       running_un Between h = absurd h
       running_un (Running p g) h = tt
       running_un (Prepared k v o a) h = absurd h
-  act_at P none more (Counts act) x (inr h) = inr (rw act.exec h.0, subst P (sym act.phase) (more act.content act.votes _ None None act.accepts [] (inl refl) (subst P act.before h.1)))
+  act_at P none more (Counts act) x (inr h) =
+      inr (rw act.exec h.0, subst P (sym act.phase) (more act.content act.votes _ None None act.accepts [] (inl refl) (subst P act.before h.1)))
   act_at P none more (Proposes act) x (inr h) = inr (rw act.exec h.0, subst P (sym act.phase) (more act.content act.votes act.votes None (Some act.choice) act.accepts [] (inl refl) (subst P act.before h.1)))
   act_at P none more (Accepts act) x (inr h) = inr (rw act.exec h.0, subst P (sym act.phase) (more act.content act.votes act.votes (Some act.choice) (Some act.choice) act.accepts _ (inr refl) (subst P act.before h.1)))
   act_at P none more (Decides act) x (inr h) = inl (inr (rw act.exec h.0, act.phase))
@@ -144,20 +145,25 @@ module _ (r : Rules) (Got : NodeId → Body → Type 0) (s s' : ClientState) (se
       go (inr i) = let k = t.done d i in (k.0, act_over r Got s s' sent a d.exec k.1)
 
   pub act_rec : ClientAct r Got s s' sent → CRec r.client s → CRec r.client s'
-  act_rec (Quiet act) t = record { own = λ u. own_same t (stage_under_way s.phase s'.phase act.stage u) act.exec; done = decided_old t (Quiet act) act.decisions }
+  act_rec (Quiet act) t =
+      record { own = λ u. own_same t (stage_under_way s.phase s'.phase act.stage u) act.exec; done = decided_old t (Quiet act) act.decisions }
   act_rec (Advances act) t = record { own = λ v. go act.own; done = decided_old t (Advances act) act.decisions }
     where
       go : (s'.exec.ver.client ≡ r.client) ⊎ ((s'.exec.ver ≡ s.exec.ver) × WasBegun s) → s'.exec.ver.client ≡ r.client
       go (inl f) = f
       go (inr (f, inl u)) = rw f (t.own u)
       go (inr (f, inr d)) = rw (f, ← d.2) (t.done d.0 d.1).0
-  act_rec (Prepares act) t = record { own = λ u. own_same t (running_under_way s.phase act.running) act.exec; done = decided_old t (Prepares act) act.decisions }
+  act_rec (Prepares act) t =
+      record { own = λ u. own_same t (running_under_way s.phase act.running) act.exec; done = decided_old t (Prepares act) act.decisions }
   act_rec (Counts act) t = record { own = λ u. own_same t (prepared_under_way _ _ _ _ _ act.before) act.exec; done = decided_old t (Counts act) act.decisions }
-  act_rec (Proposes act) t = record { own = λ u. own_same t (prepared_under_way _ _ _ _ _ act.before) act.exec; done = decided_old t (Proposes act) act.decisions }
-  act_rec (Accepts act) t = record { own = λ u. own_same t (prepared_under_way _ _ _ _ _ act.before) act.exec; done = decided_old t (Accepts act) act.decisions }
+  act_rec (Proposes act) t =
+      record { own = λ u. own_same t (prepared_under_way _ _ _ _ _ act.before) act.exec; done = decided_old t (Proposes act) act.decisions }
+  act_rec (Accepts act) t =
+      record { own = λ u. own_same t (prepared_under_way _ _ _ _ _ act.before) act.exec; done = decided_old t (Accepts act) act.decisions }
   act_rec (Decides act) t = record { own = λ u. own_same t (prepared_under_way _ _ _ _ _ act.before) act.exec; done = decided_new t (Decides act) (prepared_under_way _ _ _ _ _ act.before) act.exec act.phase act.choice act.decisions }
   act_rec (Gives_up act) t = record { own = λ u. own_same t (running_under_way s.phase act.running) act.exec; done = decided_new t (Gives_up act) (running_under_way s.phase act.running) act.exec act.phase Abandon act.decisions }
-  act_rec (Learns act) t = record { own = λ u. own_same t act.under_way act.exec; done = decided_new t (Learns act) act.under_way act.exec act.phase act.choice act.decisions }
+  act_rec (Learns act) t =
+      record { own = λ u. own_same t act.under_way act.exec; done = decided_new t (Learns act) act.under_way act.exec act.phase act.choice act.decisions }
 
   decisions_grow : ClientAct r Got s s' sent → (d : Decision) → IsIn d s.decisions → IsIn d s'.decisions
   decisions_grow (Quiet act) z i = rw act.decisions i

@@ -75,7 +75,8 @@ kept_committed h w k i = let j = IsIn-filtered (λ (c : Kept). before (dropped h
 voted_kept : (h : Handled) (w : Version) (c : Cast) → IsIn c (casts h) → c.vote ≡ Commit → decided h c.exec ≡ None → before (dropped h) c.exec.ver ≡ true →
     UpTo c.exec.ver w → IsIn (record { exec = c.exec; content = c.content }) (voted_upto h w)
 unfolding voted_upto
-voted_kept h w c i v n a u = in_sorted _ _ (map_in (λ (y : Cast). record { exec = y.exec; content = y.content }) _ c (IsIn-filter _ (casts h) c i (rw (v, n, a, u) refl)))
+voted_kept h w c i v n a u =
+    in_sorted _ _ (map_in (λ (y : Cast). record { exec = y.exec; content = y.content }) _ c (IsIn-filter _ (casts h) c i (rw (v, n, a, u) refl)))
 
 -- the answer to a Fence
 named_now : (h : Handled) (w : Version) → IsWell h → IsTaking h → (c : Cast) → IsIn c (casts h) → c.vote ≡ Commit → UpTo c.exec.ver w →

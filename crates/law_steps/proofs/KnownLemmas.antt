@@ -179,7 +179,8 @@ new_content_finds p h _ x a q l c e i = absurd i
 pub accepted_content_finds : (h : Handled) (x : Exec) (a : Acceptance) → IsWell h → IsIn a (acceptances h) → a.exec ≡ x → a.choice ≡ ToCommit →
     Finds (accepted_content h x)
 accepted_content_finds [] x a w i e c = absurd i
-accepted_content_finds (m ∷ h) x a w i e c = go (λ j. accepted_content_finds h x a w.1 j e c) (IsIn-cases a (new_acceptance h m.body) (acceptances h) i) (accepted_content h x) refl
+accepted_content_finds (m ∷ h) x a w i e c =
+    go (λ j. accepted_content_finds h x a w.1 j e c) (IsIn-cases a (new_acceptance h m.body) (acceptances h) i) (accepted_content h x) refl
   where
     go : (IsIn a (acceptances h) → Finds (accepted_content h x)) → IsIn a (new_acceptance h m.body) ⊎ IsIn a (acceptances h) → (o : Option Content) →
         accepted_content h x ≡ o → Finds (option_or o (accepted_content_for (promised h x) x m.body))

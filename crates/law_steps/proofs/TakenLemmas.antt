@@ -35,7 +35,8 @@ above_none a (Some v) e = up_to_none a v e
 
 pub taken_above : (h : Handled) → IsTaking h → (m : Envelope) → IsIn m h → is_above no_version (version_of m.body) ≡ true
 taken_above [] t m i = absurd i
-taken_above (n ∷ h) t m (inl e) = subst (λ (y : Envelope). is_above no_version (version_of y.body) ≡ true) (sym e) (above_none (dropped h) (version_of n.body) (takes_above h n.body t.0))
+taken_above (n ∷ h) t m (inl e) =
+    subst (λ (y : Envelope). is_above no_version (version_of y.body) ≡ true) (sym e) (above_none (dropped h) (version_of n.body) (takes_above h n.body t.0))
 taken_above (n ∷ h) t m (inr i) = taken_above h t.1 m i
 
 -- what is dropped was dropped by a Drop, with the base

@@ -114,7 +114,8 @@ earlier_settled h x k c well same i v f e = split (before (dropped h) c.exec.ver
   where
     go : before (dropped h) c.exec.ver ≡ true → (o : Option Choice) → decided h c.exec ≡ o → decided h c.exec ≡ Some Abandon
     go is_above (Some Abandon) q = q
-    go is_above None q = absurd (true_false (sym (any_in (open_test h x k) (casts h) c i (open_holds h x k c is_above v q f)) ∙ (verdict_commit h (casts h) x k e).still_open))
+    go is_above None q =
+        absurd (true_false (sym (any_in (open_test h x k) (casts h) c i (open_holds h x k c is_above v q f)) ∙ (verdict_commit h (casts h) x k e).still_open))
     go is_above (Some ToCommit) q = let s = some_from (commit_on c.exec (commits h)) (commit_finds h c.exec well q) in
         let l = found (λ (y : Kept). y.exec) c.exec (commits h) s.0 s.1 in
         absurd (true_false (sym (any_in (committed_test h x k) (commits h) s.0 l.0 (committed_holds h x k c s.0 is_above l.1 (same s.0 l.0 l.1) f)) ∙ (verdict_commit h (casts h) x k e).committed))
@@ -126,7 +127,8 @@ earlier_settled h x k c well same i v f e = split (before (dropped h) c.exec.ver
 -- a verdict of Final conflicts with something committed there, or with an entry of the base
 pub final_conflict : (h : Handled) (x : Exec) (k : Content) → verdict h (casts h) x k ≡ Final →
     ((l : Kept) × IsIn l (commits h) × (conflicts x.ver k l.exec.ver l.content ≡ true)) ⊎ ((b : BaseEntry) × IsIn b (base h) × (conflicts_with_base x.ver k b ≡ true))
-final_conflict h x k e = go (list_any (committed_test h x k) (commits h)) refl (list_any (conflicts_with_base x.ver k) (base h)) refl (verdict_final h (casts h) x k e)
+final_conflict h x k e =
+    go (list_any (committed_test h x k) (commits h)) refl (list_any (conflicts_with_base x.ver k) (base h)) refl (verdict_final h (casts h) x k e)
   where
     go : (t : Bool) → list_any (committed_test h x k) (commits h) ≡ t → (u : Bool) → list_any (conflicts_with_base x.ver k) (base h) ≡ u → (t || u) ≡ true →
         ((l : Kept) × IsIn l (commits h) × (conflicts x.ver k l.exec.ver l.content ≡ true)) ⊎ ((b : BaseEntry) × IsIn b (base h) × (conflicts_with_base x.ver k b ≡ true))

@@ -200,7 +200,8 @@ module _ (r : WardenRules) (Got : NodeId → Body → Type 0) where
   more_chain : (s : WardenState) (u : WardenTurn) (x : Exec) (t : Bool) → Chained s u → Chained s (recover_more r u x t)
   unfolding recover
   more_chain s u x true c = c
-  more_chain s u x false c = Then u.state (recover r u.state x).state u.sent (recover r u.state x).sent c (Asks (record { exec = x; state = refl; sends = refl }))
+  more_chain s u x false c =
+      Then u.state (recover r u.state x).state u.sent (recover r u.state x).sent c (Asks (record { exec = x; state = refl; sends = refl }))
 
   all_chain : (s : WardenState) (u : WardenTurn) (xs : List Exec) → Chained s u → Chained s (recover_all r u xs)
   all_chain s u [] c = c
@@ -245,7 +246,8 @@ module _ (r : WardenRules) (Got : NodeId → Body → Type 0) where
 
   from_chain : (s : WardenState) (u : WardenTurn) (j : ℕ) (b : Body) → Chained s u → Got (Replica j) b → (0 < j) × (j ≤ r.replicas) →
       Chained s (fenced_from r u (Some j) b)
-  from_chain s u j (Fenced w b c v) h got range = fence_chain s u w (record { replica = j; base = b; committed = c; voted = v }) u.state.truncations refl h got range
+  from_chain s u j (Fenced w b c v) h got range =
+      fence_chain s u w (record { replica = j; base = b; committed = c; voted = v }) u.state.truncations refl h got range
   from_chain s u j _ h got range = h
 
   sender_chain : (s : WardenState) (u : WardenTurn) (from : NodeId) (b : Body) → Chained s u → Got from b →

@@ -93,7 +93,8 @@ pub record WRec (n k : ℕ) (s : WardenState) : Type 0 where
   pub numbered : (a : Round) → IsIn a s.rounds → IsNumbered k n s.rounds a
 
 abbrev pub WFact : ℕ → ℕ → WardenState → Body → Type 0
-WFact n k s (Finalize x v d o) = ((0 < k) × (k ≤ n)) × ((a : Round) × (round_of x v s.rounds ≡ Some a) × (a.proposal ≡ Some (record { choice = d; content = o })))
+WFact n k s (Finalize x v d o) =
+    ((0 < k) × (k ≤ n)) × ((a : Round) × (round_of x v s.rounds ≡ Some a) × (a.proposal ≡ Some (record { choice = d; content = o })))
 WFact n k s (Decide x d o) = IsIn (record { exec = x; proposal = record { choice = d; content = o } }) s.decisions
 WFact n k s (Ask x v) = Unit {0}
 WFact n k s (Fence v) = Unit {0}
@@ -141,7 +142,8 @@ module _ (r : WardenRules) (Got : NodeId → Body → Type 0) (s s' : WardenStat
           IsNumbered r.warden r.wardens (record { exec = act.exec; view = r.warden + used act.exec s.rounds * r.wardens; tolds = []; proposal = None; accepts = [] } ∷ s.rounds) a
       go a (inl z) = subst (λ (b : Round). IsNumbered r.warden r.wardens (record { exec = act.exec; view = r.warden + used act.exec s.rounds * r.wardens; tolds = []; proposal = None; accepts = [] } ∷ s.rounds) b) (sym z) (used act.exec s.rounds, used_new act.exec s.rounds, refl)
       go a (inr i) = let k = t.numbered a i in let m = used_more act.exec a.exec s.rounds (record { exec = act.exec; view = r.warden + used act.exec s.rounds * r.wardens; tolds = []; proposal = None; accepts = [] }) refl in (k.0, (let l = k.1 in omega (arith, l, m)), k.2)
-  act_numbered (Counts_told act) t = rw act.state (record { numbered = put_numbered t act.exec act.view act.round (told_round act.round act.told act.proposal) act.found refl refl })
+  act_numbered (Counts_told act) t =
+      rw act.state (record { numbered = put_numbered t act.exec act.view act.round (told_round act.round act.told act.proposal) act.found refl refl })
   act_numbered (Counts_accepted act) t = record { numbered = subst (λ (rounds : List Round). (b : Round) → IsIn b rounds → IsNumbered r.warden r.wardens rounds b) (sym act.rounds) (put_numbered t act.exec act.view act.round (with_accept act.round act.proposal act.replica) act.found refl refl) }
   act_numbered (Begins_truncation act) t = rw act.state (record { numbered = t.numbered })
   act_numbered (Counts_fenced act) t = rw act.state (record { numbered = t.numbered })
@@ -174,7 +176,8 @@ module _ (r : WardenRules) (Got : NodeId → Body → Type 0) (s s' : WardenStat
           let is : r.warden + used act.exec s.rounds * r.wardens ≡ u = eqb_is _ _ (and_right (same_exec y act.exec) _ f) in
           let v1 = k.2 in let v2 = g.2 in
           absurd (omega (arith, below, is, v1, v2))
-  act_proposed (Counts_told act) t y u p h = rw act.state (put_proposed act.exec y act.view u act.round (told_round act.round act.told act.proposal) p act.found refl refl (λ z f. cc) h)
+  act_proposed (Counts_told act) t y u p h =
+      rw act.state (put_proposed act.exec y act.view u act.round (told_round act.round act.told act.proposal) p act.found refl refl (λ z f. cc) h)
   act_proposed (Counts_accepted act) t y u p h = rw act.rounds (put_proposed act.exec y act.view u act.round (with_accept act.round act.proposal act.replica) p act.found refl refl (λ z f. sym act.proposed ∙ f) h)
   act_proposed (Begins_truncation act) t y u p h = rw act.state h
   act_proposed (Counts_fenced act) t y u p h = rw act.state h
