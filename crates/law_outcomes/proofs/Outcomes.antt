@@ -45,7 +45,8 @@ correct_at s some events =
       based = drops_are_serial s some events;
     }
 
-settled_at : (s : Scripted) → 0 < s.replicas → (events more : List Event) → IsSettled (replay_from (plan_of s) first_world events) (replay_from (plan_of s) first_world (events ++ more))
+settled_at : (s : Scripted) → 0 < s.replicas → (events more : List Event) →
+    IsSettled (replay_from (plan_of s) first_world events) (replay_from (plan_of s) first_world (events ++ more))
 settled_at s some events more v bs x sent upto committed = (base_of_drop (plan_of s) some events more v bs sent).settled x upto
     (subst (λ (w : World). Committed w x) (replays_join (plan_of s) first_world events more) committed)
 

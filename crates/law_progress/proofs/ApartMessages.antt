@@ -59,13 +59,15 @@ module _ (p : Plan) (pos : 0 < p.replicas) (w : World) (q : Reach p w) (calm : I
     sees r g f k mine = sees_first p pos w q calm c n o.apart a o.begun o.txn o.client o.only g (in_mail r g f) o.above k mine
 
     -- each Note to this version tells a first value, and names nothing as gone
-    pub note_first : (v : Version) (k : Key) (wid : Wid) (value : ℤ) (s : Bool) (lost : Option Wid) → WasSent w (Note v k wid value s lost) → v ≡ a.ver → ((u : ℤ) × (record { wid = wid; value = value; sure = s } ≡ first_value u)) × (lost ≡ None)
+    pub note_first : (v : Version) (k : Key) (wid : Wid) (value : ℤ) (s : Bool) (lost : Option Wid) → WasSent w (Note v k wid value s lost) → v ≡ a.ver →
+        ((u : ℤ) × (record { wid = wid; value = value; sure = s } ≡ first_value u)) × (lost ≡ None)
     note_first v k wid value s lost t same =
         let r = by_replica (Note v k wid value s lost) (λ d f. f) t in
         let f = subst (Told p.firsts r.0 (w.replica r.0)) t.body ((told_reach p w q).said t.envelope r.0 t.there r.1) in
         by r.0 f (first_shape p.firsts k)
       where
-        by : (r : ℕ) → NoteFrom p.firsts (w.replica r) v k wid value s lost → (u : ℤ) × (first_held p.firsts k ≡ first_value u) → ((u : ℤ) × (record { wid = wid; value = value; sure = s } ≡ first_value u)) × (lost ≡ None)
+        by : (r : ℕ) → NoteFrom p.firsts (w.replica r) v k wid value s lost → (u : ℤ) × (first_held p.firsts k ≡ first_value u) →
+            ((u : ℤ) × (record { wid = wid; value = value; sure = s } ≡ first_value u)) × (lost ≡ None)
         by r f shape = ((shape.0, f.told ∙ first_of f.list f.within ∙ shape.1), gone f.gone)
           where
             mine : IsNamedFor w c n k
@@ -75,7 +77,8 @@ module _ (p : Plan) (pos : 0 < p.replicas) (w : World) (q : Reach p w) (calm : I
             first_of : (g : Handled) → Within g (w.replica r) → latest p.firsts g k v ≡ first_held p.firsts k
             first_of g z = ap (λ (y : Version). latest p.firsts g k y) same ∙ sees r g z k mine
 
-            gone : (lost ≡ None) ⊎ ((g : Handled) × Within g (w.replica r) × (same_held (latest p.firsts g k v) (latest p.firsts f.list k v) ≡ false)) → lost ≡ None
+            gone : (lost ≡ None) ⊎ ((g : Handled) × Within g (w.replica r) × (same_held (latest p.firsts g k v) (latest p.firsts f.list k v) ≡ false)) →
+                lost ≡ None
             gone (inl e) = e
             gone (inr g) = absurd (true_false (sym (same_itself shape.0)
                 ∙ ap (λ (y : Held). same_held y (first_value shape.0)) (sym (first_of g.0 g.1 ∙ shape.1))

@@ -61,7 +61,8 @@ latest_none u e = subst (λ (z : Version). later no_version z ≡ no_version) (s
 
 pub tame_dropped : (h : Handled) → AllTame h → dropped h ≡ no_version
 tame_dropped [] t = refl
-tame_dropped (m ∷ h) t = ap (λ (u : Version). later u (dropped_by m.body)) (tame_dropped h (tame_tail m h t)) ∙ latest_none (dropped_by m.body) (go m.body (t m (inl refl)))
+tame_dropped (m ∷ h) t = ap (λ (u : Version). later u (dropped_by m.body)) (tame_dropped h (tame_tail m h t))
+    ∙ latest_none (dropped_by m.body) (go m.body (t m (inl refl)))
   where
     go : (b : Body) → IsTame b → dropped_by b ≡ no_version
     go (Drops u bs) f = absurd f
@@ -69,7 +70,8 @@ tame_dropped (m ∷ h) t = ap (λ (u : Version). later u (dropped_by m.body)) (t
 
 tame_fence : (h : Handled) → AllTame h → fence h ≡ no_version
 tame_fence [] t = refl
-tame_fence (m ∷ h) t = ap (λ (u : Version). later u (fenced_by m.body)) (tame_fence h (tame_tail m h t)) ∙ latest_none (fenced_by m.body) (go m.body (t m (inl refl)))
+tame_fence (m ∷ h) t = ap (λ (u : Version). later u (fenced_by m.body)) (tame_fence h (tame_tail m h t))
+    ∙ latest_none (fenced_by m.body) (go m.body (t m (inl refl)))
   where
     go : (b : Body) → IsTame b → fenced_by b ≡ no_version
     go (Drops u bs) f = absurd f
@@ -78,7 +80,8 @@ tame_fence (m ∷ h) t = ap (λ (u : Version). later u (fenced_by m.body)) (tame
 
 pub tame_promised : (h : Handled) (x : Exec) → AllTame h → promised h x ≡ 0
 tame_promised [] x t = refl
-tame_promised (m ∷ h) x t = ap (λ (u : ℕ). max u (view_for x m.body)) (tame_promised h x (tame_tail m h t)) ∙ ap (λ (u : ℕ). max 0 u) (go m.body (t m (inl refl)))
+tame_promised (m ∷ h) x t = ap (λ (u : ℕ). max u (view_for x m.body)) (tame_promised h x (tame_tail m h t))
+    ∙ ap (λ (u : ℕ). max 0 u) (go m.body (t m (inl refl)))
   where
     zeros : (t : Bool) (u : ℕ) → u ≡ 0 → cond t u 0 ≡ 0
     zeros true u e = e
@@ -107,8 +110,10 @@ wrote : (x : Exec) (s : Bool) (i : ℕ) (k : Key) (ws : List Write) (a : Held) �
 wrote x s i k [] a e = cc
 wrote x s i k (u ∷ us) a e = go (λ z. wrote x s (suc i) k us a z) (last_write x s (suc i) k us) refl (same_key k u.key) refl e
   where
-    go : (last_write x s (suc i) k us ≡ Some a → HasWriteOf k us × (a.wid.ver ≡ x.ver)) → (o : Option Held) → last_write x s (suc i) k us ≡ o → (t : Bool) → same_key k u.key ≡ t
-        → option_or o (then_some t (record { wid = record { ver = x.ver; eid = x.eid; seq = i }; value = u.value; sure = s })) ≡ Some a → HasWriteOf k (u ∷ us) × (a.wid.ver ≡ x.ver)
+    go : (last_write x s (suc i) k us ≡ Some a → HasWriteOf k us × (a.wid.ver ≡ x.ver)) → (o : Option Held) → last_write x s (suc i) k us ≡ o → (t : Bool) →
+        same_key k u.key ≡ t
+        → option_or o (then_some t (record { wid = record { ver = x.ver; eid = x.eid; seq = i }; value = u.value; sure = s })) ≡ Some a →
+        HasWriteOf k (u ∷ us) × (a.wid.ver ≡ x.ver)
     go ih (Some b) q t z e = let r = ih (q ∙ e) in ((r.0.0, inr r.0.1, r.0.2), r.1)
     go ih None q true z e = ((u, inl refl, sym (key_is k u.key z)), let f : record { wid = record { ver = x.ver; eid = x.eid; seq = i }; value = u.value; sure = s } ≡ a = cc in ap (λ (y : Held). y.wid.ver) (sym f))
     go ih None q false z e = cc
@@ -156,7 +161,8 @@ module _ (p : Plan) (pos : 0 < p.replicas) (w : World) (q : Reach p w) (calm : I
       go (Finalize x u d o) (inr f) = absurd f.1
       go _ f = tt
 
-  module _ (c n : ℕ) (apart : IsApart w c n) (a : Attempt) (begun : IsIn a (w.client c).attempts) (txn : a.txn ≡ n) (client : a.ver.client ≡ c) (only : (b : Attempt) → IsIn b (w.client c).attempts → b.txn ≡ n → b.ver ≡ a.ver) where
+  module _ (c n : ℕ) (apart : IsApart w c n) (a : Attempt) (begun : IsIn a (w.client c).attempts) (txn : a.txn ≡ n) (client : a.ver.client
+      ≡ c) (only : (b : Attempt) → IsIn b (w.client c).attempts → b.txn ≡ n → b.ver ≡ a.ver) where
     -- what an execution of this version names, the transaction names
     pub own : (x : Exec) (b : Body) (k : Key) → x.ver ≡ a.ver → WasSent w b → Names b x k → IsNamedFor w c n k
     own x b k e t m = record {
@@ -179,7 +185,8 @@ module _ (p : Plan) (pos : 0 < p.replicas) (w : World) (q : Reach p w) (calm : I
     put_same : (y : Exec) (ws : List Write) (k : Key) → IsNamedFor w c n k → WasSent w (Puts y ws) → HasWriteOf k ws → y.ver ≡ a.ver
     put_same y ws k mine t m = let o = puts_attempt p w q y ws t in same y (Puts y ws) k mine t (refl, m) o.0 o.1
 
-    prepare_same : (y : Exec) (l : Content) (k : Key) → IsNamedFor w c n k → WasSent w (Prepare y l) → HasReadOf k l.reads ⊎ HasWriteOf k l.writes → y.ver ≡ a.ver
+    prepare_same : (y : Exec) (l : Content) (k : Key) → IsNamedFor w c n k → WasSent w (Prepare y l) → HasReadOf k l.reads ⊎ HasWriteOf k l.writes →
+        y.ver ≡ a.ver
     prepare_same y l k mine t m = let o = replayed p w q y l t in same y (Prepare y l) k mine t (refl, m) o.0 o.1
 
     not_below : (y : Exec) → y.ver ≡ a.ver → before y.ver a.ver ≡ true → ⊥
@@ -190,20 +197,24 @@ module _ (p : Plan) (pos : 0 < p.replicas) (w : World) (q : Reach p w) (calm : I
       tame m i = tame_mail m (sent m i)
 
       committed_sent : (k : Kept) → IsIn k (commits h) → WasSent w (Prepare k.exec k.content)
-      committed_sent k i = let t = commit_taken h k i in (contents_reach p pos w q).from t.0.body k.exec k.content t.2 (record { envelope = t.0; there = sent t.0 t.1; body = refl })
+      committed_sent k i = let t = commit_taken h k i in
+          (contents_reach p pos w q).from t.0.body k.exec k.content t.2 (record { envelope = t.0; there = sent t.0 t.1; body = refl })
 
       cast_sent : (k : Cast) → IsIn k (casts h) → WasSent w (Prepare k.exec k.content)
-      cast_sent k i = let t = cast_taken h k i in (contents_reach p pos w q).from t.0.body k.exec k.content t.2 (record { envelope = t.0; there = sent t.0 t.1; body = refl })
+      cast_sent k i = let t = cast_taken h k i in
+          (contents_reach p pos w q).from t.0.body k.exec k.content t.2 (record { envelope = t.0; there = sent t.0 t.1; body = refl })
 
       -- what this version sees of its keys is their first values
       pub sees_first : before no_version a.ver ≡ true → (k : Key) → IsNamedFor w c n k → latest p.firsts h k a.ver ≡ first_held p.firsts k
       sees_first above k mine = let l = latest_is p.firsts h k a.ver above in go l.0 l.1
         where
-          go : before (latest p.firsts h k a.ver).wid.ver a.ver ≡ true → HeldCase p.firsts h k (latest p.firsts h k a.ver) → latest p.firsts h k a.ver ≡ first_held p.firsts k
+          go : before (latest p.firsts h k a.ver).wid.ver a.ver ≡ true → HeldCase p.firsts h k (latest p.firsts h k a.ver) →
+              latest p.firsts h k a.ver ≡ first_held p.firsts k
           go b (Is_first e) = e
           go b (Of_base d i e f) = absurd (subst (λ (bs : List BaseEntry). IsIn d bs) (tame_base h tame) i)
           go b (Of_commit d i e) = let m = wrote d.exec true 1 k d.content.writes (latest p.firsts h k a.ver) e in
-              absurd (not_below d.exec (prepare_same d.exec d.content k mine (committed_sent d i) (inr m.0)) (subst (λ (v : Version). before v a.ver ≡ true) m.1 b))
+              absurd (not_below d.exec (prepare_same d.exec d.content k mine (committed_sent d i) (inr m.0)) (subst (λ (v : Version). before v a.ver
+              ≡ true) m.1 b))
           go b (Of_put u d e f) =
               let m = wrote d.exec false 1 k d.writes (latest p.firsts h k a.ver) f in
               let t = kept_taken h u d e in
@@ -233,7 +244,8 @@ module _ (p : Plan) (pos : 0 < p.replicas) (w : World) (q : Reach p w) (calm : I
           go true q f = first q
           go false q f = second f
 
-      pub verdict_is_commit : (x : Exec) (k : Content) → before no_version a.ver ≡ true → x.ver ≡ a.ver → WasSent w (Prepare x k) → verdict h (casts h) x k ≡ Commit
+      pub verdict_is_commit : (x : Exec) (k : Content) → before no_version a.ver ≡ true → x.ver ≡ a.ver → WasSent w (Prepare x k) →
+          verdict h (casts h) x k ≡ Commit
       unfolding verdict
       verdict_is_commit x k above e t = rw (fenced, committed, based, voted) refl
         where
@@ -250,9 +262,11 @@ module _ (p : Plan) (pos : 0 < p.replicas) (w : World) (q : Reach p w) (calm : I
           voted = none_any _ (casts h) (λ y i f. no_clash x y.exec k y.content e t (cast_sent y i) (and_right _ _ (and_right _ _ (and_right (before (dropped h) y.exec.ver) _ f))))
 
     -- so each vote on an execution of this version is Commit
-    pub casts_commit : before no_version a.ver ≡ true → (h : Handled) → ((m : Envelope) → IsIn m h → IsIn m w.mail) → (y : Cast) → IsIn y (casts h) → y.exec.ver ≡ a.ver → y.vote ≡ Commit
+    pub casts_commit : before no_version a.ver ≡ true → (h : Handled) → ((m : Envelope) → IsIn m h → IsIn m w.mail) → (y : Cast) → IsIn y (casts h) →
+        y.exec.ver ≡ a.ver → y.vote ≡ Commit
     casts_commit above [] sent y i e = absurd i
     casts_commit above (m ∷ h) sent y i e = elim (IsIn-cases y (new_cast h (casts h) m.body) (casts h) i) [
-      | inl j ↦ let z = cast_is h m.body y j in z.1 ∙ verdict_is_commit h (λ u k. sent u (inr k)) y.exec y.content above e (record { envelope = m; there = sent m (inl refl); body = z.0 })
+      | inl j ↦ let z = cast_is h m.body y j in z.1
+          ∙ verdict_is_commit h (λ u k. sent u (inr k)) y.exec y.content above e (record { envelope = m; there = sent m (inl refl); body = z.0 })
       | inr j ↦ casts_commit above h (λ u k. sent u (inr k)) y j e
     ]

@@ -111,7 +111,8 @@ module _ (r : Rules) where
   unfolding counts_vote
   votes_keep c k votes x j v = when_keeps _ c c _ refl (tallies c k _ (tally_says r.replicas _))
 
-  accepts_keep : (c : ClientState) (k : Content) (votes : List CountedVote) (d : Choice) (accepts : List ℕ) (x : Exec) (view j : ℕ) → Same c (counts_accept r c k votes d accepts x view j)
+  accepts_keep : (c : ClientState) (k : Content) (votes : List CountedVote) (d : Choice) (accepts : List ℕ) (x : Exec) (view j : ℕ) →
+      Same c (counts_accept r c k votes d accepts x view j)
   unfolding counts_accept decide
   accepts_keep c k votes d accepts x view j = when_keeps _ c c _ refl (when_keeps _ c (prepared c k votes (Some d) (accepts ++ j ∷ [])) _ refl (concludes (prepared c k votes (Some d) (accepts ++ j ∷ [])) d _))
 
@@ -130,7 +131,8 @@ module _ (r : Rules) where
   running_keeps c pending from (Decide x d k) = when_keeps _ c c _ refl (told_keeps c d)
   running_keeps c pending from _ = refl
 
-  prepared_keeps : (c : ClientState) (k : Content) (votes : List CountedVote) (o : Option Choice) (accepts : List ℕ) (from : NodeId) (b : Body) → Same c (comes_prepared r c k votes o accepts from b)
+  prepared_keeps : (c : ClientState) (k : Content) (votes : List CountedVote) (o : Option Choice) (accepts : List ℕ) (from : NodeId) (b : Body) →
+      Same c (comes_prepared r c k votes o accepts from b)
   unfolding comes_prepared
   prepared_keeps c k votes o accepts from (Note v key wid value sure lost) = when_keeps _ c c _ refl (note_keeps c key _ lost)
   prepared_keeps c k votes o accepts from (Decide x d l) = when_keeps _ c c _ refl (concludes c d [])

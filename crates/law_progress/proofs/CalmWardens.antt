@@ -58,7 +58,8 @@ calm_first = record { wardens = λ k. refl; silent = λ e i. absurd i; marks = �
 
 module _ (p : Plan) (w w' : World) (c : IsCalm w) where
   -- what a client or a replica sends is not from a warden
-  more : (sent : List Envelope) → w'.mail ≡ w.mail ++ sent → ((e : Envelope) → IsIn e sent → (k : ℕ) → e.from ≡ Warden k → ⊥) → (e : Envelope) → IsIn e w'.mail → (k : ℕ) → e.from ≡ Warden k → ⊥
+  more : (sent : List Envelope) → w'.mail ≡ w.mail ++ sent → ((e : Envelope) → IsIn e sent → (k : ℕ) → e.from ≡ Warden k → ⊥) → (e : Envelope) →
+      IsIn e w'.mail → (k : ℕ) → e.from ≡ Warden k → ⊥
   more sent q f e i = elim (IsIn-cases e w.mail sent (subst (λ (l : List Envelope). IsIn e l) q i)) [ inl j ↦ c.silent e j | inr j ↦ f e j ]
 
   of_client : (d : ℕ) (bs : List Body) (e : Envelope) → IsIn e (flat_map (to_all p.replicas (Client d)) bs) → (k : ℕ) → e.from ≡ Warden k → ⊥
@@ -87,9 +88,15 @@ module _ (p : Plan) (w w' : World) (c : IsCalm w) where
   calm_step (Client_takes d i m to t a) = record { wardens = client_wardens d _ a; silent = more _ t.mail (of_client d _); marks = takes_marks i m _ t }
   calm_step (Client_goes d g t a) = record { wardens = client_wardens d _ a; silent = more _ t.mail (of_client d _); marks = acts_marks _ t }
   calm_step (Client_runs d g q t a) = record { wardens = client_wardens d _ a; silent = more _ t.mail (of_client d _); marks = acts_marks _ t }
-  calm_step (Replica_takes r i m to t a b d) = record { wardens = λ k. ap (λ (f : ℕ → WardenState). f k) d ∙ c.wardens k; silent = more _ t.mail (of_replica r m); marks = takes_marks i m _ t }
+  calm_step (Replica_takes r i m to t a b d) = record {
+    wardens = λ k. ap (λ (f : ℕ → WardenState). f k) d
+        ∙ c.wardens k;
+    silent = more _ t.mail (of_replica r m);
+    marks = takes_marks i m _ t;
+  }
   calm_step (Warden_takes k i m to t a b d) = record {
-    wardens = λ j. ap (λ (f : ℕ → WardenState). f j) d ∙ at_cases (λ (s : WardenState). s ≡ fresh_warden) k _ w.warden j (λ e. ap (λ (u : WardenTurn). u.state) still_fresh) (c.wardens j);
+    wardens = λ j. ap (λ (f : ℕ → WardenState). f j) d
+        ∙ at_cases (λ (s : WardenState). s ≡ fresh_warden) k _ w.warden j (λ e. ap (λ (u : WardenTurn). u.state) still_fresh) (c.wardens j);
     silent = more _ t.mail (λ e j. absurd (subst (λ (u : WardenTurn). IsIn e (flat_map (parcel p.replicas (Warden k)) u.sent)) still_fresh j));
     marks = takes_marks i m _ t;
   }

@@ -56,7 +56,8 @@ module _ (r : Rules) (s : ClientState) (vs : List ℤ) (firsts : s.answers ≡ m
   ready_not sent e = rw e refl
 
   pub ready : (sent : List Body) (e : Ending) → (walk r s).ending ≡ Some e
-      → prepare_if_ready r s sent ≡ record { state = record s { phase = Prepared (content r s e) [] None [] }; sent = sent ++ Prepare s.exec (content r s e) ∷ [] }
+      → prepare_if_ready r s sent
+      ≡ record { state = record s { phase = Prepared (content r s e) [] None [] }; sent = sent ++ Prepare s.exec (content r s e) ∷ [] }
   unfolding prepare_if_ready
   ready sent e q = rw (q, sure) refl
     where
@@ -92,14 +93,16 @@ module _ (r : Rules) (s : ClientState) (vs : List ℤ) (firsts : s.answers ≡ m
 
     -- the body answers the question
     abbrev pub IsAnswer : Bool → Body → Type 0
-    IsAnswer pending b = (k : Key) × (wid : Wid) × (value : ℤ) × (sure : Bool) × (lost : Option Wid) × (b ≡ Note s.exec.ver k wid value sure lost) × (pending ≡ false) × ((walk r s).asks ≡ Some k)
+    IsAnswer pending b = (k : Key) × (wid : Wid) × (value : ℤ) × (sure : Bool) × (lost : Option Wid) × (b ≡ Note s.exec.ver k wid value sure lost) × (pending
+        ≡ false) × ((walk r s).asks ≡ Some k)
 
     -- what came while it runs: nothing that matters, or the answer to its question
     pub data Hears (pending : Bool) (b : Body) (t : Turn) : Type 0 where
       Ignored : (IsAnswer pending b → ⊥) → t ≡ idle s → Hears pending b t
       Answered : pending ≡ false → (k : Key) (u : ℤ) → (walk r s).asks ≡ Some k → t ≡ idle (answered s (first_value u)) → Hears pending b t
 
-    note_heard : (pending : Bool) (v : Version) (k : Key) (wid : Wid) (value : ℤ) (sure : Bool) (lost : Option Wid) (u : ℤ) → record { wid = wid; value = value; sure = sure } ≡ first_value u → lost ≡ None
+    note_heard : (pending : Bool) (v : Version) (k : Key) (wid : Wid) (value : ℤ) (sure : Bool) (lost : Option Wid) (u : ℤ) →
+        record { wid = wid; value = value; sure = sure } ≡ first_value u → lost ≡ None
         → Hears pending (Note v k wid value sure lost) (note_running r s pending k (record { wid = wid; value = value; sure = sure }) lost)
     unfolding note_running note_on
     note_heard pending v k wid value sure lost u e f = subst (λ (z : Held). Hears pending (Note v k wid value sure lost) (note_running r s pending k z lost)) (sym e)
@@ -107,24 +110,29 @@ module _ (r : Rules) (s : ClientState) (vs : List ℤ) (firsts : s.answers ≡ m
         (go pending refl (walk r s).asks refl))
       where
         not_this : (l : Key) → same_key k l ≡ false → (walk r s).asks ≡ Some l → IsAnswer pending (Note v k wid value sure lost) → ⊥
-        not_this l z q a = let g : a.0 ≡ k = cc a.5 in let h : a.0 ≡ l = (let y = sym a.7 ∙ q in cc) in true_false (sym (key_itself k) ∙ ap (λ (y : Key). same_key k y) (sym g ∙ h) ∙ z)
+        not_this l z q a = let g : a.0 ≡ k = cc a.5 in let h : a.0 ≡ l = (let y = sym a.7 ∙ q in cc) in
+            true_false (sym (key_itself k) ∙ ap (λ (y : Key). same_key k y) (sym g ∙ h) ∙ z)
 
-        asked : (l : Key) (z : Bool) → same_key k l ≡ z → pending ≡ false → (walk r s).asks ≡ Some l → Hears pending (Note v k wid value sure lost) (note_on r s k (first_value u) None z)
+        asked : (l : Key) (z : Bool) → same_key k l ≡ z → pending ≡ false → (walk r s).asks ≡ Some l →
+            Hears pending (Note v k wid value sure lost) (note_on r s k (first_value u) None z)
         asked l true z p q = Answered p l u q refl
         asked l false z p q = Ignored (not_this l z q) (note_none u (place_of k 0 (walk r s).keys))
 
-        go : (t : Bool) → pending ≡ t → (o : Option Key) → (walk r s).asks ≡ o → Hears pending (Note v k wid value sure lost) (note_on r s k (first_value u) None (not t && answers_question o k))
+        go : (t : Bool) → pending ≡ t → (o : Option Key) → (walk r s).asks ≡ o →
+            Hears pending (Note v k wid value sure lost) (note_on r s k (first_value u) None (not t && answers_question o k))
         go true p o q = Ignored (λ a. let z = a.6 in cc) (note_none u (place_of k 0 (walk r s).keys))
         go false p None q = Ignored (λ a. let z = a.7 in cc) (note_none u (place_of k 0 (walk r s).keys))
         go false p (Some l) q = asked l (same_key k l) refl p q
 
     pub running_hears : (pending : Bool) (from : NodeId) (b : Body) → (is_warden from ≡ true → ⊥)
-        → ((v : Version) (k : Key) (wid : Wid) (value : ℤ) (sure : Bool) (lost : Option Wid) → b ≡ Note v k wid value sure lost → v ≡ s.exec.ver → ((u : ℤ) × (record { wid = wid; value = value; sure = sure } ≡ first_value u)) × (lost ≡ None))
+        → ((v : Version) (k : Key) (wid : Wid) (value : ℤ) (sure : Bool) (lost : Option Wid) → b ≡ Note v k wid value sure lost → v ≡ s.exec.ver →
+        ((u : ℤ) × (record { wid = wid; value = value; sure = sure } ≡ first_value u)) × (lost ≡ None))
         → ((v u : Version) → b ≡ TooOld v u → v ≡ s.exec.ver → ⊥) → Hears pending b (comes_running r s pending from b)
     unfolding comes_running
     running_hears pending from (Note v k wid value sure lost) ward note old = go (same_version v s.exec.ver) (same_version_tells v s.exec.ver)
       where
-        go : (t : Bool) → ((t ≡ true) × (v ≡ s.exec.ver)) ⊎ ((t ≡ false) × (v ≢ s.exec.ver)) → Hears pending (Note v k wid value sure lost) (turn_when t s (note_running r s pending k (record { wid = wid; value = value; sure = sure }) lost))
+        go : (t : Bool) → ((t ≡ true) × (v ≡ s.exec.ver)) ⊎ ((t ≡ false) × (v ≢ s.exec.ver)) →
+            Hears pending (Note v k wid value sure lost) (turn_when t s (note_running r s pending k (record { wid = wid; value = value; sure = sure }) lost))
         go true (inl e) = let n = note v k wid value sure lost refl e.1 in note_heard pending v k wid value sure lost n.0.0 n.0.1 n.1
         go true (inr e) = cc
         go false (inl e) = cc
@@ -147,12 +155,14 @@ module _ (r : Rules) (s : ClientState) (vs : List ℤ) (firsts : s.answers ≡ m
 
 -- what came while it is prepared, with Commit votes alone
 pub data Counts (r : Rules) (s : ClientState) (k : Content) (votes : List CountedVote) (from : NodeId) (b : Body) (t : Turn) : Type 0 where
-  Ignores : (l : List Answer) → t ≡ idle (record s { answers = l }) → ((j : ℕ) → from ≡ Replica j → 0 < j → j ≤ r.replicas → b ≡ Voted s.exec Commit → IsCounted j votes) → Counts r s k votes from b t
+  Ignores : (l : List Answer) → t ≡ idle (record s { answers = l }) →
+      ((j : ℕ) → from ≡ Replica j → 0 < j → j ≤ r.replicas → b ≡ Voted s.exec Commit → IsCounted j votes) → Counts r s k votes from b t
   Adds : (j : ℕ) → from ≡ Replica j → nat_le r.replicas (count_votes is_commit_vote (votes ++ record { replica = j; vote = Commit } ∷ [])) ≡ false
       → t ≡ idle (prepared s k (votes ++ record { replica = j; vote = Commit } ∷ []) None []) → Counts r s k votes from b t
   Commits : (more : List CountedVote) → t ≡ decide r (prepared s k more None []) k ToCommit → Counts r s k votes from b t
 
-module _ (r : Rules) (s : ClientState) (k : Content) (votes : List CountedVote) (accepts : List ℕ) (phase : s.phase ≡ Prepared k votes None accepts) (all : AllCommit votes) where
+module _ (r : Rules) (s : ClientState) (k : Content) (votes : List CountedVote) (accepts : List ℕ) (phase : s.phase
+    ≡ Prepared k votes None accepts) (all : AllCommit votes) where
   more_commit : (j : ℕ) → AllCommit (votes ++ record { replica = j; vote = Commit } ∷ [])
   more_commit j b i = elim (IsIn-cases b votes (record { replica = j; vote = Commit } ∷ []) i) [
     | inl z ↦ all b z
@@ -175,17 +185,20 @@ module _ (r : Rules) (s : ClientState) (k : Content) (votes : List CountedVote) 
       go false (inl e) u q = cc
       go false (inr e) u q = Ignores s.answers refl (λ i f a b g. let y : x ≡ s.exec = cc in absurd (e.1 y))
       go true (inr e) u q = cc
-      go true (inl e) true q = Ignores s.answers refl (λ i f a b g. let y : j ≡ i = cc in let c = any_true (λ (b : CountedVote). b.replica == j) votes q in (c.0, c.1, eqb_is c.0.replica j c.2 ∙ y))
+      go true (inl e) true q = Ignores s.answers refl (λ i f a b g. let y : j ≡ i = cc in let c = any_true (λ (b : CountedVote). b.replica == j) votes q in
+          (c.0, c.1, eqb_is c.0.replica j c.2 ∙ y))
       go true (inl e) false q = commit (known (ap (λ (y : Exec). y.ver) e.1))
 
-  pub prepared_hears : (from : NodeId) (b : Body) → (is_warden from ≡ true → ⊥) → ((x : Exec) (v : Vote) → b ≡ Voted x v → x.ver ≡ s.exec.ver → v ≡ Commit) → Counts r s k votes from b (comes_prepared r s k votes None accepts from b)
+  pub prepared_hears : (from : NodeId) (b : Body) → (is_warden from ≡ true → ⊥) → ((x : Exec) (v : Vote) → b ≡ Voted x v → x.ver ≡ s.exec.ver → v ≡ Commit) →
+      Counts r s k votes from b (comes_prepared r s k votes None accepts from b)
   unfolding comes_prepared note_prepared
   prepared_hears from (Note v key wid value sure lost) ward vote = go (same_version v s.exec.ver)
     where
       go : (t : Bool) → Counts r s k votes from (Note v key wid value sure lost) (turn_when t s (idle (note_prepared r s key (record { wid = wid; value = value; sure = sure }) lost)))
       go true = by (place_of key 0 (walk r s).keys)
         where
-          at_place : (i : ℕ) (f : Effect) → Counts r s k votes from (Note v key wid value sure lost) (idle (follow_prepared s i (answer_at s i) (record { wid = wid; value = value; sure = sure }) f))
+          at_place : (i : ℕ) (f : Effect) →
+              Counts r s k votes from (Note v key wid value sure lost) (idle (follow_prepared s i (answer_at s i) (record { wid = wid; value = value; sure = sure }) f))
           at_place i Nothing = Ignores s.answers refl (λ j f a b g. cc)
           at_place i Sure = Ignores _ refl (λ j f a b g. cc)
           at_place i Follow = Ignores _ refl (λ j f a b g. cc)
@@ -201,9 +214,11 @@ module _ (r : Rules) (s : ClientState) (k : Content) (votes : List CountedVote) 
       go false e = Ignores s.answers refl (λ j f a b g. cc)
   prepared_hears (Replica j) (Voted x v) ward vote = go (nat_lt 0 j && nat_le j r.replicas) refl
     where
-      go : (t : Bool) → (nat_lt 0 j && nat_le j r.replicas) ≡ t → Counts r s k votes (Replica j) (Voted x v) (from_replica s (λ i. counts_vote r s k votes x i v) (then_some t j))
+      go : (t : Bool) → (nat_lt 0 j && nat_le j r.replicas) ≡ t →
+          Counts r s k votes (Replica j) (Voted x v) (from_replica s (λ i. counts_vote r s k votes x i v) (then_some t j))
       go true e = vote_heard x j v (λ q. vote x v refl q)
-      go false e = Ignores s.answers refl (λ i f a b g. let y : j ≡ i = cc in absurd (true_false (sym (in_bounds i a b) ∙ ap (λ (z : ℕ). nat_lt 0 z && nat_le z r.replicas) (sym y) ∙ e)))
+      go false e = Ignores s.answers refl (λ i f a b g. let y : j ≡ i = cc in
+          absurd (true_false (sym (in_bounds i a b) ∙ ap (λ (z : ℕ). nat_lt 0 z && nat_le z r.replicas) (sym y) ∙ e)))
         where
           in_bounds : (i : ℕ) → 0 < i → i ≤ r.replicas → (nat_lt 0 i && nat_le i r.replicas) ≡ true
           in_bounds i a b = grind (arith, nat_tests)

@@ -27,7 +27,8 @@ pub none_counted : (n : ℕ) → 0 < n → nat_le n 0 ≡ false
 none_counted n l = grind (arith, nat_tests)
 
 -- they commit once there are n of them, and wait for more until then
-pub commits_or_waits : (n : ℕ) (votes : List CountedVote) → AllCommit votes → (tally_says n votes ≡ FastCommit) ⊎ ((tally_says n votes ≡ Wait) × (nat_le n (count_votes is_commit_vote votes) ≡ false))
+pub commits_or_waits : (n : ℕ) (votes : List CountedVote) → AllCommit votes →
+    (tally_says n votes ≡ FastCommit) ⊎ ((tally_says n votes ≡ Wait) × (nat_le n (count_votes is_commit_vote votes) ≡ false))
 unfolding tally_says
 commits_or_waits n votes a = go (nat_le n (count_votes is_commit_vote votes)) refl
   where
@@ -40,7 +41,8 @@ commits_or_waits n votes a = go (nat_le n (count_votes is_commit_vote votes)) re
     few : nat_le (quorum n) 0 ≡ false
     few = none_counted (quorum n) (omega arith)
 
-    go : (t : Bool) → nat_le n (count_votes is_commit_vote votes) ≡ t → (tally_says n votes ≡ FastCommit) ⊎ ((tally_says n votes ≡ Wait) × (nat_le n (count_votes is_commit_vote votes) ≡ false))
+    go : (t : Bool) → nat_le n (count_votes is_commit_vote votes) ≡ t →
+        (tally_says n votes ≡ FastCommit) ⊎ ((tally_says n votes ≡ Wait) × (nat_le n (count_votes is_commit_vote votes) ≡ false))
     go true e = inl (rw e refl)
     go false e = inr (rw (e, final, other, few) refl, e)
 
@@ -53,7 +55,8 @@ unfolding remove
 remove_length k [] i = absurd i
 remove_length k (x ∷ xs) i = go (λ j. remove_length k xs j) (x == k) (eqb_tells x k) i
   where
-    go : (IsIn k xs → suc (length (remove k xs)) ≡ length xs) → (t : Bool) → ((t ≡ true) × (x ≡ k)) ⊎ ((t ≡ false) × (x ≢ k)) → IsIn k (x ∷ xs) → suc (length (cond t xs (x ∷ remove k xs))) ≡ length (x ∷ xs)
+    go : (IsIn k xs → suc (length (remove k xs)) ≡ length xs) → (t : Bool) → ((t ≡ true) × (x ≡ k)) ⊎ ((t ≡ false) × (x ≢ k)) → IsIn k (x ∷ xs) →
+        suc (length (cond t xs (x ∷ remove k xs))) ≡ length (x ∷ xs)
     go ih true e i = refl
     go ih false (inl e) i = cc
     go ih false (inr e) (inl z) = absurd (e.1 (sym z))
@@ -64,7 +67,8 @@ unfolding remove
 remove_in k r [] i n = i
 remove_in k r (x ∷ xs) i n = go (λ j. remove_in k r xs j n) (x == k) (eqb_tells x k) i
   where
-    go : (IsIn r xs → IsIn r (remove k xs)) → (t : Bool) → ((t ≡ true) × (x ≡ k)) ⊎ ((t ≡ false) × (x ≢ k)) → IsIn r (x ∷ xs) → IsIn r (cond t xs (x ∷ remove k xs))
+    go : (IsIn r xs → IsIn r (remove k xs)) → (t : Bool) → ((t ≡ true) × (x ≡ k)) ⊎ ((t ≡ false) × (x ≢ k)) → IsIn r (x ∷ xs) →
+        IsIn r (cond t xs (x ∷ remove k xs))
     go ih true (inl e) (inl z) = absurd (n (z ∙ e.1))
     go ih true (inr e) (inl z) = cc
     go ih true e (inr j) = j
@@ -92,7 +96,8 @@ map_length [] = refl
 map_length (b ∷ votes) = ap suc (map_length votes)
 
 -- with a Commit of each replica counted there are n of them
-pub all_counted : (n : ℕ) (votes : List CountedVote) → AllCommit votes → ((r : ℕ) → 0 < r → r ≤ n → IsCounted r votes) → nat_le n (count_votes is_commit_vote votes) ≡ true
+pub all_counted : (n : ℕ) (votes : List CountedVote) → AllCommit votes → ((r : ℕ) → 0 < r → r ≤ n → IsCounted r votes) →
+    nat_le n (count_votes is_commit_vote votes) ≡ true
 all_counted n votes a f =
     let l = covers n (map (λ (b : CountedVote). b.replica) votes) (λ r u v. replicas_in votes r (f r u v)) in
     let m = map_length votes in let k = count_all votes a in

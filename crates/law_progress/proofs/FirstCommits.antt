@@ -21,18 +21,22 @@ program_asks p vs e = go (replay_of p vs).asks refl ((takes_answers p.body (leng
     ended None e h = cc
     ended (Some x) e h = cc
 
-    go : (o : Option Key) → (replay_of p vs).asks ≡ o → MatchOption o (IsSome (replay_of p vs).ending) (λ k. IsNone (replay_of p vs).ending) → (k : Key) × ((program_walk p vs).asks ≡ Some k)
+    go : (o : Option Key) → (replay_of p vs).asks ≡ o → MatchOption o (IsSome (replay_of p vs).ending) (λ k. IsNone (replay_of p vs).ending) →
+        (k : Key) × ((program_walk p vs).asks ≡ Some k)
     go None q m = absurd (ended (replay_of p vs).ending e m)
     go (Some k) q m = (k, q)
 
 scripts_ask : (s : Scripted) → AsksOrEnds (plan_of s)
-scripts_ask s c n t e vs = client (slice_get s.clients (c - 1)) (subst (λ (o : Option (List Txn)). slice_get (txns_of o) n ≡ Some t) (slice_get-map (map txn_of) s.clients (c - 1)) e)
+scripts_ask s c n t e vs = client (slice_get s.clients (c - 1)) (subst (λ (o : Option (List Txn)). slice_get (txns_of o) n
+    ≡ Some t) (slice_get-map (map txn_of) s.clients (c - 1)) e)
   where
     start : (o : Option Start) → option_map txn_of o ≡ Some t → (t.walk vs).ending ≡ None → (k : Key) × ((t.walk vs).asks ≡ Some k)
     start None e = absurd cc
-    start (Some x) e = let f : txn_of x ≡ t = cc in subst (λ (y : Txn). (y.walk vs).ending ≡ None → (k : Key) × ((y.walk vs).asks ≡ Some k)) f (program_asks x.program vs)
+    start (Some x) e = let f : txn_of x ≡ t = cc in
+        subst (λ (y : Txn). (y.walk vs).ending ≡ None → (k : Key) × ((y.walk vs).asks ≡ Some k)) f (program_asks x.program vs)
 
-    client : (o : Option (List Start)) → slice_get (txns_of (option_map (map txn_of) o)) n ≡ Some t → (t.walk vs).ending ≡ None → (k : Key) × ((t.walk vs).asks ≡ Some k)
+    client : (o : Option (List Start)) → slice_get (txns_of (option_map (map txn_of) o)) n ≡ Some t → (t.walk vs).ending ≡ None →
+        (k : Key) × ((t.walk vs).asks ≡ Some k)
     client None e = absurd cc
     client (Some ts) e = start (slice_get ts n) (sym (slice_get-map txn_of ts n) ∙ e)
 

@@ -86,14 +86,16 @@ module _ (p : Plan) (pos : 0 < p.replicas) (asks : AsksOrEnds p) (c n : ℕ) (w 
   ours : InFirst p c n S → IsOurs w c n (record { ver = S.exec.ver; txn = n; try = 1 })
   ours u = record { apart = apart; begun = u.there; txn = refl; client = u.client; only = u.only; above = u.above }
 
-  done : (a : Attempt) → IsIn a S.attempts → a.txn ≡ n → a.try ≡ 1 → CommitSent w (record { ver = a.ver; eid = 0 }) → n ≤ (w'.client c).begun → ((w'.client c).begun ≡ n → ((w'.client c).phase ≡ Between) × ((w'.client c).fate ≡ Committed)) → Stage p c n w'
+  done : (a : Attempt) → IsIn a S.attempts → a.txn ≡ n → a.try ≡ 1 → CommitSent w (record { ver = a.ver; eid = 0 }) → n ≤ (w'.client c).begun →
+      ((w'.client c).begun ≡ n → ((w'.client c).phase ≡ Between) × ((w'.client c).fate ≡ Committed)) → Stage p c n w'
   done a i t y d l e = Done a (attempts_later p w w' q f c a i) t y (d.0, sent_later p w w' f _ d.1) l e
 
   -- another node moved
   other : w'.client c ≡ S → (InFirst p c n S → Stands p w c S S.phase → Stands p w' c S S.phase) → Stage p c n w → Stage p c n w'
   other e keep (Before l) = Before (subst (λ (z : ClientState). z.begun < n) (sym e) l)
   other e keep (Under u z) = Under (subst (λ (y : ClientState). InFirst p c n y) (sym e) u) (subst (λ (y : ClientState). Stands p w' c y y.phase) (sym e) (keep u z))
-  other e keep (Done a i t y d l g) = done a i t y d (subst (λ (z : ClientState). n ≤ z.begun) (sym e) l) (subst (λ (z : ClientState). z.begun ≡ n → (z.phase ≡ Between) × (z.fate ≡ Committed)) (sym e) g)
+  other e keep (Done a i t y d l g) = done a i t y d (subst (λ (z : ClientState). n ≤ z.begun) (sym e) l) (subst (λ (z : ClientState). z.begun ≡ n →
+      (z.phase ≡ Between) × (z.fate ≡ Committed)) (sym e) g)
 
   -- the client moved while the transaction is under way
   moved : (t : Turn) → InFirst p c n S → w'.client c ≡ t.state → Moved p c n w' S t → Stage p c n w'
@@ -103,7 +105,9 @@ module _ (p : Plan) (pos : 0 < p.replicas) (asks : AsksOrEnds p) (c n : ℕ) (w 
       (let g : (w'.client c).begun ≡ n = ap (λ (z : ClientState). z.begun) e ∙ b ∙ u.begun in omega (arith, g))
       (λ g. (ap (λ (z : ClientState). z.phase) e ∙ ph, ap (λ (z : ClientState). z.fate) e ∙ ft))
 
-  mine_takes : (i : ℕ) (m : Envelope) → m.to ≡ Client c → Takes w w' i m (flat_map (to_all p.replicas (Client c)) (comes (rules p c) S S.phase m.from m.body).sent) → ClientAlone w w' c (comes (rules p c) S S.phase m.from m.body).state → Stage p c n w → Stage p c n w'
+  mine_takes : (i : ℕ) (m : Envelope) → m.to ≡ Client c →
+      Takes w w' i m (flat_map (to_all p.replicas (Client c)) (comes (rules p c) S S.phase m.from m.body).sent) →
+      ClientAlone w w' c (comes (rules p c) S S.phase m.from m.body).state → Stage p c n w → Stage p c n w'
   unfolding comes
   mine_takes i m to t a st = by st
     where
@@ -126,10 +130,12 @@ module _ (p : Plan) (pos : 0 < p.replicas) (asks : AsksOrEnds p) (c n : ℕ) (w 
       new : w'.client c ≡ (go (rules p c) S).state
       new = ap (λ (g : ℕ → ClientState). g c) a.client ∙ at_same c (go (rules p c) S).state w.client
 
-      begins : S.begun < n → S.begun < length (rules p c).txns → (go (rules p c) S).state ≡ begin (rules p c) S (S.begun + 1) 1 → (S.begun + 1 ≡ n) ⊎ (S.begun + 1 ≢ n) → Stage p c n w'
+      begins : S.begun < n → S.begun < length (rules p c).txns → (go (rules p c) S).state ≡ begin (rules p c) S (S.begun + 1) 1 →
+          (S.begun + 1 ≡ n) ⊎ (S.begun + 1 ≢ n) → Stage p c n w'
       begins l k e (inl g) = Under (subst (λ (y : ClientState). InFirst p c n y) (sym (new ∙ e)) (begins_first p c n S l (try_rec p w q c) g k))
           (subst (λ (y : ClientState). Stands p w' c y y.phase) (sym (new ∙ e)) (begins_stands p w' c (rules p c) S (S.begun + 1) 1))
-      begins l k e (inr g) = Before (let b : (w'.client c).begun ≡ S.begun + 1 = ap (λ (z : ClientState). z.begun) (new ∙ e) ∙ begun_next (rules p c) S in omega (arith, b, l, g))
+      begins l k e (inr g) = Before (let b : (w'.client c).begun ≡ S.begun + 1 = ap (λ (z : ClientState). z.begun) (new ∙ e)
+          ∙ begun_next (rules p c) S in omega (arith, b, l, g))
 
       by : Stage p c n w → Goes (rules p c) S (go (rules p c) S).state → Stage p c n w'
       by (Before l) (Again r b) = Before (let g : (w'.client c).begun ≡ S.begun = ap (λ (z : ClientState). z.begun) new ∙ b in omega (arith, g, l))
@@ -137,10 +143,12 @@ module _ (p : Plan) (pos : 0 < p.replicas) (asks : AsksOrEnds p) (c n : ℕ) (w 
       by (Under u z) g = absurd (goes_between p w c (rules p c) S S.phase refl z can)
       by (Done b j x y d l g) (Again r e) = let h : (w'.client c).begun ≡ S.begun = ap (λ (z : ClientState). z.begun) new ∙ e in
           done b j x y d (omega (arith, h, l)) (λ k. absurd (no_more_tries (rules p c) S (g (sym h ∙ k)).1 r))
-      by (Done b j x y d l g) (Next_one r k e) = let h : (w'.client c).begun ≡ S.begun + 1 = ap (λ (z : ClientState). z.begun) (new ∙ e) ∙ begun_next (rules p c) S in
+      by (Done b j x y d l g) (Next_one r k e) = let h : (w'.client c).begun ≡ S.begun + 1 = ap (λ (z : ClientState). z.begun) (new ∙ e)
+          ∙ begun_next (rules p c) S in
           done b j x y d (omega (arith, h, l)) (λ k. absurd (omega (arith, h, l, k)))
 
-  mine_runs : (given : Bool) → S.phase ≡ Running true given → Acts w w' (flat_map (to_all p.replicas (Client c)) (ran (rules p c) S given).sent) → ClientAlone w w' c (ran (rules p c) S given).state → Stage p c n w → Stage p c n w'
+  mine_runs : (given : Bool) → S.phase ≡ Running true given → Acts w w' (flat_map (to_all p.replicas (Client c)) (ran (rules p c) S given).sent) →
+      ClientAlone w w' c (ran (rules p c) S given).state → Stage p c n w → Stage p c n w'
   mine_runs given ph t a st = by st
     where
       new : w'.client c ≡ (ran (rules p c) S given).state
@@ -152,12 +160,15 @@ module _ (p : Plan) (pos : 0 < p.replicas) (asks : AsksOrEnds p) (c n : ℕ) (w 
       by : Stage p c n w → Stage p c n w'
       by (Before l) = Before (subst (λ (b : ℕ). b < n) (sym same_begun) l)
       by (Under u z) = moved (ran (rules p c) S given) u new (ran_moves p pos w q calm c n S refl u (ours u) w' a.replica given ph (subst (λ (h : Phase). Stands p w c S h) ph z) asks t)
-      by (Done b j x y d l g) = done b j x y d (subst (λ (z : ℕ). n ≤ z) (sym same_begun) l) (λ e. let h = (g (sym same_begun ∙ e)).0 in let k : Between ≡ Running true given = sym h ∙ ph in cc)
+      by (Done b j x y d l g) = done b j x y d (subst (λ (z : ℕ). n ≤ z) (sym same_begun) l) (λ e. let h = (g (sym same_begun ∙ e)).0 in let k : Between
+          ≡ Running true given = sym h ∙ ph in cc)
 
   step : Does p w w' → Stage p c n w → Stage p c n w'
   step (Nothing e) st = subst (λ (z : World). Stage p c n z) (sym e) st
   step (Client_takes d i m to t a) st = elim (eqb_tells c d) [
-    | inl e ↦ (let P : ℕ → Type 0 = λ d. m.to ≡ Client d → Takes w w' i m (flat_map (to_all p.replicas (Client d)) (comes (rules p d) (w.client d) (w.client d).phase m.from m.body).sent) → ClientAlone w w' d (comes (rules p d) (w.client d) (w.client d).phase m.from m.body).state → Stage p c n w' in
+    | inl e ↦ (let P : ℕ → Type 0 = λ d. m.to ≡ Client d →
+        Takes w w' i m (flat_map (to_all p.replicas (Client d)) (comes (rules p d) (w.client d) (w.client d).phase m.from m.body).sent) →
+        ClientAlone w w' d (comes (rules p d) (w.client d) (w.client d).phase m.from m.body).state → Stage p c n w' in
         subst P e.1 (λ to t a. mine_takes i m to t a st) to t a)
     | inr e ↦ other (ap (λ (g : ℕ → ClientState). g c) a.client ∙ at_other d _ w.client c e.1)
         (λ u z. stands_on p w w' c S a.replica (λ x g y. elim (takes_waits w w' _ x i m t y) [ inl h ↦ h | inr h ↦ absurd (elsewhere d e.1 x m g h to) ]) S.phase z) st
@@ -167,13 +178,18 @@ module _ (p : Plan) (pos : 0 < p.replicas) (asks : AsksOrEnds p) (c n : ℕ) (w 
       elsewhere d n x m (inl g) h to = let k : Client c ≡ Client d = sym g ∙ ap (λ (y : Envelope). y.to) h ∙ to in let l : c ≡ d = cc in n l
       elsewhere d n x m (inr g) h to = let k : Replica g.0 ≡ Client d = sym g.1 ∙ ap (λ (y : Envelope). y.to) h ∙ to in cc
   step (Client_goes d can t a) st = elim (eqb_tells c d) [
-    | inl e ↦ (let P : ℕ → Type 0 = λ d. can_go (rules p d) (w.client d) ≡ true → ClientAlone w w' d (go (rules p d) (w.client d)).state → Stage p c n w' in subst P e.1 (λ can a. mine_goes can a st) can a)
-    | inr e ↦ other (ap (λ (g : ℕ → ClientState). g c) a.client ∙ at_other d _ w.client c e.1) (λ u z. stands_on p w w' c S a.replica (λ x g y. acts_waits w w' _ x t y) S.phase z) st
+    | inl e ↦ (let P : ℕ → Type 0 = λ d. can_go (rules p d) (w.client d) ≡ true → ClientAlone w w' d (go (rules p d) (w.client d)).state →
+        Stage p c n w' in subst P e.1 (λ can a. mine_goes can a st) can a)
+    | inr e ↦ other (ap (λ (g : ℕ → ClientState). g c) a.client
+        ∙ at_other d _ w.client c e.1) (λ u z. stands_on p w w' c S a.replica (λ x g y. acts_waits w w' _ x t y) S.phase z) st
   ]
   step (Client_runs d given ph t a) st = elim (eqb_tells c d) [
-    | inl e ↦ (let P : ℕ → Type 0 = λ d. (w.client d).phase ≡ Running true given → Acts w w' (flat_map (to_all p.replicas (Client d)) (ran (rules p d) (w.client d) given).sent) → ClientAlone w w' d (ran (rules p d) (w.client d) given).state → Stage p c n w' in
+    | inl e ↦ (let P : ℕ → Type 0 = λ d. (w.client d).phase ≡ Running true given →
+        Acts w w' (flat_map (to_all p.replicas (Client d)) (ran (rules p d) (w.client d) given).sent) →
+        ClientAlone w w' d (ran (rules p d) (w.client d) given).state → Stage p c n w' in
         subst P e.1 (λ ph t a. mine_runs given ph t a st) ph t a)
-    | inr e ↦ other (ap (λ (g : ℕ → ClientState). g c) a.client ∙ at_other d _ w.client c e.1) (λ u z. stands_on p w w' c S a.replica (λ x g y. acts_waits w w' _ x t y) S.phase z) st
+    | inr e ↦ other (ap (λ (g : ℕ → ClientState). g c) a.client
+        ∙ at_other d _ w.client c e.1) (λ u z. stands_on p w w' c S a.replica (λ x g y. acts_waits w w' _ x t y) S.phase z) st
   ]
   step (Replica_takes r i m to t a b d) st = other (ap (λ (g : ℕ → ClientState). g c) a)
       (λ u z. replica_stands p pos w q calm c n S refl u (stands_way p w c S S.phase z) (ours u) w' r i m to t b S.phase z) st
@@ -184,7 +200,8 @@ module _ (p : Plan) (pos : 0 < p.replicas) (asks : AsksOrEnds p) (c n : ℕ) (w 
       elsewhere x (inl g) h = let l : Client c ≡ Warden k = sym g ∙ ap (λ (y : Envelope). y.to) h ∙ to in cc
       elsewhere x (inr g) h = let l : Replica g.0 ≡ Warden k = sym g.1 ∙ ap (λ (y : Envelope). y.to) h ∙ to in cc
 
-stages : (p : Plan) → 0 < p.replicas → AsksOrEnds p → (c n : ℕ) (w : World) → Reach p w → IsCalm w → (events : List Event) → IsUndisturbed p w events → IsApart (replay_from p w events) c n → Stage p c n w → Stage p c n (replay_from p w events)
+stages : (p : Plan) → 0 < p.replicas → AsksOrEnds p → (c n : ℕ) (w : World) → Reach p w → IsCalm w → (events : List Event) → IsUndisturbed p w events →
+    IsApart (replay_from p w events) c n → Stage p c n w → Stage p c n (replay_from p w events)
 stages p pos asks c n w q calm [] und apart st = st
 stages p pos asks c n w q calm (e ∷ events) und apart st =
     let w' = after p w e in
@@ -212,10 +229,13 @@ settled p pos c n w q s b (Under u z) = absurd (go (w.client c).phase refl z)
     go Between e z = z
     go (Running true g) e z = let k : true ≡ false = sym (ap has_pending e) ∙ s.idle c in cc
     go (Running false g) e z = asked z.2.0 z.2.2
-    go (Prepared k votes o acs) e z = let g = all_counted p.replicas votes z.1 (λ r a v. ballot k votes r (z.3 r a v)) in let y : true ≡ false = sym g ∙ z.2 in cc
+    go (Prepared k votes o acs) e z = let g = all_counted p.replicas votes z.1 (λ r a v. ballot k votes r (z.3 r a v)) in let y : true ≡ false = sym g
+        ∙ z.2 in cc
 
-pub first_commits_of : (p : Plan) → 0 < p.replicas → AsksOrEnds p → (events : List Event) → IsUndisturbed p first_world events → IsSettled (replay_from p first_world events)
-    → (c n : ℕ) → HasBegun (replay_from p first_world events) c n → IsApart (replay_from p first_world events) c n → IsFirstCommit (replay_from p first_world events) c n
+pub first_commits_of : (p : Plan) → 0 < p.replicas → AsksOrEnds p → (events : List Event) → IsUndisturbed p first_world events →
+    IsSettled (replay_from p first_world events)
+    → (c n : ℕ) → HasBegun (replay_from p first_world events) c n → IsApart (replay_from p first_world events) c n →
+    IsFirstCommit (replay_from p first_world events) c n
 first_commits_of p pos asks events und s c n b apart =
     settled p pos c n (replay_from p first_world events) (events_reach p first_world first_world Begins events) s b
     (stages p pos asks c n first_world Begins calm_first events und apart (Before (let k = and_left (nat_lt 0 n) _ b in lt_is 0 n k)))

@@ -70,7 +70,8 @@ in_readers r s [] (inl e) = inl e
 in_readers r s [] (inr f) = absurd f
 in_readers r s (t ∷ ts) i = go (λ j. in_readers r s ts j) (key_before r.key t.key || (same_key r.key t.key && before r.ver t.ver)) (same_key r.key t.key && same_version r.ver t.ver) i
   where
-    go : (IsIn s (put_reader r ts) → (s ≡ r) ⊎ IsIn s ts) → (a b : Bool) → IsIn s (cond a (r ∷ t ∷ ts) (cond b (t ∷ ts) (t ∷ put_reader r ts))) → (s ≡ r) ⊎ IsIn s (t ∷ ts)
+    go : (IsIn s (put_reader r ts) → (s ≡ r) ⊎ IsIn s ts) → (a b : Bool) → IsIn s (cond a (r ∷ t ∷ ts) (cond b (t ∷ ts) (t ∷ put_reader r ts))) →
+        (s ≡ r) ⊎ IsIn s (t ∷ ts)
     go ih true b (inl e) = inl e
     go ih true b (inr j) = inr j
     go ih false true j = inr j
@@ -98,7 +99,8 @@ answer_told firsts r h m (Get x k) c q (inl e) = subst (λ (z : Body). Told firs
   gone = inl refl;
 })
 answer_told firsts r h m (Get x k) c q (inr e) = absurd e
-answer_told firsts r h m (Prepare x k) c q i = let j = IsIn-map (λ (y : Cast). Voted y.exec y.vote) c (new_cast h (casts h) (Prepare x k)) i in subst (λ (z : Body). Told firsts r (m ∷ h) z) (sym j.2) tt
+answer_told firsts r h m (Prepare x k) c q i = let j = IsIn-map (λ (y : Cast). Voted y.exec y.vote) c (new_cast h (casts h) (Prepare x k)) i in
+    subst (λ (z : Body). Told firsts r (m ∷ h) z) (sym j.2) tt
 answer_told firsts r h m (Finalize x u d k) c q i = let j = IsIn-one_when _ _ c i in subst (λ (z : Body). Told firsts r (m ∷ h) z) (sym j.1) tt
 answer_told firsts r h m (Ask x u) c q i = let j = IsIn-one_when _ _ c i in subst (λ (z : Body). Told firsts r (m ∷ h) z) (sym j.1) tt
 answer_told firsts r h m (Fence u) c q (inl e) = subst (λ (z : Body). Told firsts r (m ∷ h) z) (sym e) tt
@@ -135,7 +137,9 @@ said_told firsts r h m e i = go (takes h m.body) refl i
     body_in : (bs : List Body) → IsIn e (map (envelope_from r m.from) bs) → IsIn e.body bs
     body_in bs i = let k = IsIn-map (envelope_from r m.from) e bs i in subst (λ b. IsIn b bs) (sym (ap (λ (z : Envelope). z.body) k.2)) k.1
 
-    go : (t : Bool) → takes h m.body ≡ t → IsIn e (cond t (map (envelope_from r m.from) (answer firsts h m.body) ++ due firsts r h (m ∷ h)) (map (envelope_from r m.from) (refusal h m.body))) → Told firsts r (cond t (m ∷ h) h) e.body
+    go : (t : Bool) → takes h m.body ≡ t →
+        IsIn e (cond t (map (envelope_from r m.from) (answer firsts h m.body) ++ due firsts r h (m ∷ h)) (map (envelope_from r m.from) (refusal h m.body))) →
+        Told firsts r (cond t (m ∷ h) h) e.body
     go true q i = elim (IsIn-cases e (map (envelope_from r m.from) (answer firsts h m.body)) (due firsts r h (m ∷ h)) i) [
       | inl j ↦ answer_told firsts r h m m.body e.body refl (body_in (answer firsts h m.body) j)
       | inr j ↦ due_told firsts r h m e j

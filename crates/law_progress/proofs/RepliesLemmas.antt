@@ -17,12 +17,14 @@ module _ (firsts : List First2) (r : ℕ) (h : Handled) (none : dropped h ≡ no
   takes_above x b = ap (λ (u : Version). before u x.ver) none ∙ b
 
   -- a Get is answered by a Note of what is latest
-  pub says_note : (from to : NodeId) (x : Exec) (k : Key) → before no_version x.ver ≡ true → IsIn (envelope_from r from (note_of x.ver k (latest firsts h k x.ver))) (says firsts r h (record { from = from; to = to; body = Get x k }))
+  pub says_note : (from to : NodeId) (x : Exec) (k : Key) → before no_version x.ver ≡ true →
+      IsIn (envelope_from r from (note_of x.ver k (latest firsts h k x.ver))) (says firsts r h (record { from = from; to = to; body = Get x k }))
   unfolding says answer takes
   says_note from to x k b = rw (takes_above x b) (inl refl)
 
   -- a Prepare of an execution without a vote, with nothing in its way, is answered by a Vote
-  pub says_vote : (m : Envelope) (x : Exec) (k : Content) → m.body ≡ Prepare x k → before no_version x.ver ≡ true → promised h x ≡ 0 → vote h x ≡ None → decided h x ≡ None → verdict h (casts h) x k ≡ Commit
+  pub says_vote : (m : Envelope) (x : Exec) (k : Content) → m.body ≡ Prepare x k → before no_version x.ver ≡ true → promised h x ≡ 0 → vote h x ≡ None →
+      decided h x ≡ None → verdict h (casts h) x k ≡ Commit
       → IsIn (envelope_from r m.from (Voted x Commit)) (says firsts r h m)
   unfolding says answer takes may_vote
   says_vote m x k e b p v d c = subst (λ (z : Envelope). IsIn (envelope_from r m.from (Voted x Commit)) (says firsts r h z)) (λ i. record { from = m.from; to = m.to; body = sym e i })

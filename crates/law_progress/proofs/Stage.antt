@@ -43,7 +43,8 @@ use Rattle.law_progress.proofs.WaitingLemmas.{IsWaiting, takes_waits, takes_send
 -- the question of the client goes to a replica, or its answer to the client
 pub data Question (w : World) (c : ℕ) (x : Exec) (k : Key) : Type 0 where
   Asking : IsWaiting w (record { from = Client c; to = Replica 1; body = Get x k }) → Question w c x k
-  Telling : (r : ℕ) (wid : Wid) (value : ℤ) (s : Bool) (lost : Option Wid) → IsWaiting w (record { from = Replica r; to = Client c; body = Note x.ver k wid value s lost }) → Question w c x k
+  Telling : (r : ℕ) (wid : Wid) (value : ℤ) (s : Bool) (lost : Option Wid) →
+      IsWaiting w (record { from = Replica r; to = Client c; body = Note x.ver k wid value s lost }) → Question w c x k
 
 -- the vote of a replica was counted, goes to the client, or is asked for
 pub data Ballot (w : World) (c : ℕ) (x : Exec) (k : Content) (votes : List CountedVote) (r : ℕ) : Type 0 where
@@ -60,7 +61,8 @@ abbrev pub Stands : Plan → World → ℕ → ClientState → Phase → Type 0
 Stands p w c s Between = ⊥
 Stands p w c s (Running true g) = IsClean s
 Stands p w c s (Running false g) = IsClean s × ((walk (rules p c) s).ending ≡ None) × ((k : Key) × ((walk (rules p c) s).asks ≡ Some k) × Question w c s.exec k)
-Stands p w c s (Prepared k votes o accepts) = (o ≡ None) × AllCommit votes × (nat_le p.replicas (count_votes is_commit_vote votes) ≡ false) × ((r : ℕ) → 0 < r → r ≤ p.replicas → Ballot w c s.exec k votes r)
+Stands p w c s (Prepared k votes o accepts) = (o ≡ None) × AllCommit votes × (nat_le p.replicas (count_votes is_commit_vote votes) ≡ false) × ((r : ℕ) → 0 < r →
+    r ≤ p.replicas → Ballot w c s.exec k votes r)
 
 -- the first try of transaction n, at its execution 0
 pub record InFirst (p : Plan) (c n : ℕ) (s : ClientState) : Type 0 where
@@ -84,7 +86,8 @@ abbrev pub Concerns : ℕ → Envelope → Type 0
 Concerns c m = (m.to ≡ Client c) ⊎ ((r : ℕ) × (m.to ≡ Replica r))
 
 -- what another node does leaves it as it is
-pub stands_on : (p : Plan) (w w' : World) (c : ℕ) (s : ClientState) → w'.replica ≡ w.replica → ((m : Envelope) → Concerns c m → IsWaiting w m → IsWaiting w' m) → (h : Phase) → Stands p w c s h → Stands p w' c s h
+pub stands_on : (p : Plan) (w w' : World) (c : ℕ) (s : ClientState) → w'.replica ≡ w.replica →
+    ((m : Envelope) → Concerns c m → IsWaiting w m → IsWaiting w' m) → (h : Phase) → Stands p w c s h → Stands p w' c s h
 stands_on p w w' c s rep keep Between z = z
 stands_on p w w' c s rep keep (Running true g) z = z
 stands_on p w w' c s rep keep (Running false g) z = (z.0, z.1, (z.2.0, z.2.1, go z.2.2))
@@ -100,11 +103,13 @@ stands_on p w w' c s rep keep (Prepared k votes o accepts) z = (z.0, z.1, z.2, �
     go r (Asked v q) = Asked (subst (λ (f : ℕ → Handled). vote (f r) s.exec ≡ None) (sym rep) v) (keep _ (inr (r, refl)) q)
 
 -- what a client sends goes to each replica
-pub to_each : (n c : ℕ) (bs : List Body) (b : Body) (r : ℕ) → 0 < r → r ≤ n → IsIn b bs → IsIn (record { from = Client c; to = Replica r; body = b }) (flat_map (to_all n (Client c)) bs)
+pub to_each : (n c : ℕ) (bs : List Body) (b : Body) (r : ℕ) → 0 < r → r ≤ n → IsIn b bs →
+    IsIn (record { from = Client c; to = Replica r; body = b }) (flat_map (to_all n (Client c)) bs)
 to_each n c bs b r l u i = flat_map_in (to_all n (Client c)) bs b (record { from = Client c; to = Replica r; body = b }) i
     (map_in (λ (j : ℕ). record { from = Client c; to = Replica j; body = b }) (upto n) r (upto_in n r l u))
 
-module _ (p : Plan) (pos : 0 < p.replicas) (w : World) (q : Reach p w) (calm : IsCalm w) (c n : ℕ) (s : ClientState) (is : w.client c ≡ s) (u : InFirst p c n s) (way : IsUnderWay s.phase) (o : IsOurs w c n (record { ver = s.exec.ver; txn = n; try = 1 })) where
+module _ (p : Plan) (pos : 0 < p.replicas) (w : World) (q : Reach p w) (calm : IsCalm w) (c n : ℕ) (s : ClientState) (is : w.client c
+    ≡ s) (u : InFirst p c n s) (way : IsUnderWay s.phase) (o : IsOurs w c n (record { ver = s.exec.ver; txn = n; try = 1 })) where
   tame : (r : ℕ) → AllTame (w.replica r)
   tame r m i = tame_mail p pos w q calm m ((took_reach p w q).took r m i).0
 
@@ -128,7 +133,8 @@ module _ (p : Plan) (pos : 0 < p.replicas) (w : World) (q : Reach p w) (calm : I
       go None e = refl
       go (Some d) e = let t = decided_sent p w q s.exec d r e in absurd (from d t.0 t.1 t.1.envelope.from refl)
 
-  module _ (w' : World) (r i : ℕ) (m : Envelope) (to : m.to ≡ Replica r) (t : Takes w w' i m (says p.firsts r (w.replica r) m)) (rep : w'.replica ≡ at r (after_taking (w.replica r) m) w.replica) where
+  module _ (w' : World) (r i : ℕ) (m : Envelope) (to : m.to ≡ Replica r) (t : Takes w w' i m (says p.firsts r (w.replica r) m)) (rep : w'.replica
+      ≡ at r (after_taking (w.replica r) m) w.replica) where
     in_mail : IsIn m w.mail
     in_mail = IsIn-get w.mail i m t.place
 
@@ -140,7 +146,8 @@ module _ (p : Plan) (pos : 0 < p.replicas) (w : World) (q : Reach p w) (calm : I
     ]
 
     -- a Prepare that comes is answered by Commit
-    votes_now : (k : Content) → m.body ≡ Prepare s.exec k → vote (w.replica r) s.exec ≡ None → IsWaiting w' (record { from = Replica r; to = Client c; body = Voted s.exec Commit })
+    votes_now : (k : Content) → m.body ≡ Prepare s.exec k → vote (w.replica r) s.exec ≡ None →
+        IsWaiting w' (record { from = Replica r; to = Client c; body = Voted s.exec Commit })
     votes_now k e v = subst (λ (g : NodeId). IsWaiting w' (record { from = Replica r; to = g; body = Voted s.exec Commit })) from
         (takes_sends w w' (says p.firsts r (w.replica r) m) _ calm.marks i m t
         (says_vote p.firsts r (w.replica r) (tame_dropped (w.replica r) (tame r)) m s.exec k e u.above (tame_promised (w.replica r) s.exec (tame r)) v (undecided r) commit))
@@ -167,7 +174,8 @@ module _ (p : Plan) (pos : 0 < p.replicas) (w : World) (q : Reach p w) (calm : I
     unfolding after_taking
     cast_or_not j v = elim (eqb_tells j r) [
       | inl e ↦ here e.1
-      | inr e ↦ inl (subst (λ (h : Handled). vote h s.exec ≡ None) (sym (ap (λ (f : ℕ → Handled). f j) rep ∙ at_other r (after_taking (w.replica r) m) w.replica j e.1)) v)
+      | inr e ↦ inl (subst (λ (h : Handled). vote h s.exec
+          ≡ None) (sym (ap (λ (f : ℕ → Handled). f j) rep ∙ at_other r (after_taking (w.replica r) m) w.replica j e.1)) v)
     ]
       where
         now : (h : Handled) → vote h s.exec ≡ None → (y : Bool) → (vote (cond y (m ∷ h) h) s.exec ≡ None) ⊎ ((k : Content) × (m.body ≡ Prepare s.exec k))
@@ -180,7 +188,9 @@ module _ (p : Plan) (pos : 0 < p.replicas) (w : World) (q : Reach p w) (calm : I
 
         here : j ≡ r → (vote (w'.replica j) s.exec ≡ None) ⊎ ((j ≡ r) × ((k : Content) × (m.body ≡ Prepare s.exec k)))
         here e = elim (now (w.replica r) (subst (λ (z : ℕ). vote (w.replica z) s.exec ≡ None) e v) (takes (w.replica r) m.body)) [
-          | inl z ↦ inl (subst (λ (h : Handled). vote h s.exec ≡ None) (sym (ap (λ (f : ℕ → Handled). f j) rep ∙ ap (λ (y : ℕ). at r (after_taking (w.replica r) m) w.replica y) e ∙ at_same r (after_taking (w.replica r) m) w.replica)) z)
+          | inl z ↦ inl (subst (λ (h : Handled). vote h s.exec
+              ≡ None) (sym (ap (λ (f : ℕ → Handled). f j) rep ∙ ap (λ (y : ℕ). at r (after_taking (w.replica r) m) w.replica y) e
+              ∙ at_same r (after_taking (w.replica r) m) w.replica)) z)
           | inr z ↦ inr (e, z)
         ]
 

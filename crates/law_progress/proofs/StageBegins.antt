@@ -34,9 +34,12 @@ goes r s e = by (tries_again r s) refl
 -- one that goes has nothing under way
 pub goes_between : (p : Plan) (w : World) (c : ℕ) (r : Rules) (s : ClientState) (h : Phase) → s.phase ≡ h → Stands p w c s h → can_go r s ≡ true → ⊥
 goes_between p w c r s Between e z g = z
-goes_between p w c r s (Running true b) e z g = let f : false ≡ true = subst (λ (h : Phase). (is_between h && (tries_again r s || nat_lt s.begun (length r.txns))) ≡ true) e g in cc
-goes_between p w c r s (Running false b) e z g = let f : false ≡ true = subst (λ (h : Phase). (is_between h && (tries_again r s || nat_lt s.begun (length r.txns))) ≡ true) e g in cc
-goes_between p w c r s (Prepared k vs o acs) e z g = let f : false ≡ true = subst (λ (h : Phase). (is_between h && (tries_again r s || nat_lt s.begun (length r.txns))) ≡ true) e g in cc
+goes_between p w c r s (Running true b) e z g = let f : false
+    ≡ true = subst (λ (h : Phase). (is_between h && (tries_again r s || nat_lt s.begun (length r.txns))) ≡ true) e g in cc
+goes_between p w c r s (Running false b) e z g = let f : false
+    ≡ true = subst (λ (h : Phase). (is_between h && (tries_again r s || nat_lt s.begun (length r.txns))) ≡ true) e g in cc
+goes_between p w c r s (Prepared k vs o acs) e z g = let f : false
+    ≡ true = subst (λ (h : Phase). (is_between h && (tries_again r s || nat_lt s.begun (length r.txns))) ≡ true) e g in cc
 
 -- after a commit the next transaction is begun
 pub no_more_tries : (r : Rules) (s : ClientState) → s.fate ≡ Committed → tries_again r s ≡ true → ⊥
@@ -68,7 +71,11 @@ module _ (p : Plan) (c n : ℕ) (s : ClientState) (before_it : s.begun < n) (t :
       | inl g ↦ ap (λ (a : Attempt). a.ver) g
       | inr j ↦ let k = (t.bounded b j).1 in absurd (omega (arith, k, f, before_it))
     ];
-    program = (get_or (rules p c).txns s.begun no_txn, ap (λ (m : ℕ). slice_get (rules p c).txns m) at_place ∙ slice_get-get_or (rules p c).txns s.begun no_txn l);
+    program = (
+      get_or (rules p c).txns s.begun no_txn,
+      ap (λ (m : ℕ). slice_get (rules p c).txns m) at_place
+          ∙ slice_get-get_or (rules p c).txns s.begun no_txn l,
+    );
   }
     where
       no_txn : Txn

@@ -45,9 +45,11 @@ AsksOrEnds p = (c n : ℕ) (t : Txn) → slice_get (rules p c).txns n ≡ Some t
 -- the client after a step in which the transaction stays under way, or commits
 pub data Moved (p : Plan) (c n : ℕ) (w' : World) (s : ClientState) (t : Turn) : Type 0 where
   Still : t.state.begun ≡ s.begun → t.state.exec ≡ s.exec → t.state.attempts ≡ s.attempts → Stands p w' c t.state t.state.phase → Moved p c n w' s t
-  Finished : t.state.begun ≡ s.begun → t.state.attempts ≡ s.attempts → CommitSent w' s.exec → t.state.phase ≡ Between → t.state.fate ≡ Committed → Moved p c n w' s t
+  Finished : t.state.begun ≡ s.begun → t.state.attempts ≡ s.attempts → CommitSent w' s.exec → t.state.phase ≡ Between → t.state.fate ≡ Committed →
+      Moved p c n w' s t
 
-module _ (p : Plan) (pos : 0 < p.replicas) (w : World) (q : Reach p w) (calm : IsCalm w) (c n : ℕ) (s : ClientState) (is : w.client c ≡ s) (u : InFirst p c n s) (o : IsOurs w c n (record { ver = s.exec.ver; txn = n; try = 1 })) (w' : World) (rep : w'.replica ≡ w.replica) where
+module _ (p : Plan) (pos : 0 < p.replicas) (w : World) (q : Reach p w) (calm : IsCalm w) (c n : ℕ) (s : ClientState) (is : w.client c
+    ≡ s) (u : InFirst p c n s) (o : IsOurs w c n (record { ver = s.exec.ver; txn = n; try = 1 })) (w' : World) (rep : w'.replica ≡ w.replica) where
   abbrev Try : Attempt
   Try = record { ver = s.exec.ver; txn = n; try = 1 }
 
@@ -58,7 +60,8 @@ module _ (p : Plan) (pos : 0 < p.replicas) (w : World) (q : Reach p w) (calm : I
   no_vote_yet r x v = subst (λ (f : ℕ → Handled). vote (f r) x ≡ None) (sym rep) v
 
   -- a client that decides Commit is done, and all are told
-  committed : (k : Content) (more : List CountedVote) (t : Turn) → w'.mail ≡ w.mail ++ flat_map (to_all p.replicas (Client c)) t.sent → t ≡ decide (rules p c) (prepared s k more None []) k ToCommit → Moved p c n w' s (decide (rules p c) (prepared s k more None []) k ToCommit)
+  committed : (k : Content) (more : List CountedVote) (t : Turn) → w'.mail ≡ w.mail ++ flat_map (to_all p.replicas (Client c)) t.sent →
+      t ≡ decide (rules p c) (prepared s k more None []) k ToCommit → Moved p c n w' s (decide (rules p c) (prepared s k more None []) k ToCommit)
   unfolding decide conclude
   committed k more t mail e = Finished refl refl (Some k, record { envelope = record { from = Client c; to = Replica 1; body = Decide s.exec ToCommit (Some k) }; there = there; body = refl }) refl refl
     where
@@ -67,14 +70,16 @@ module _ (p : Plan) (pos : 0 < p.replicas) (w : World) (q : Reach p w) (calm : I
           (IsIn-right _ w.mail _ (to_each p.replicas c t.sent (Decide s.exec ToCommit (Some k)) 1 (omega arith) (omega (arith, pos)) (subst (λ (y : Turn). IsIn (Decide s.exec ToCommit (Some k)) y.sent) (sym e) (inl refl))))
 
   -- an envelope comes
-  module _ (i : ℕ) (m : Envelope) (to : m.to ≡ Client c) (t : Takes w w' i m (flat_map (to_all p.replicas (Client c)) (comes (rules p c) s s.phase m.from m.body).sent)) where
+  module _ (i : ℕ) (m : Envelope) (to : m.to
+      ≡ Client c) (t : Takes w w' i m (flat_map (to_all p.replicas (Client c)) (comes (rules p c) s s.phase m.from m.body).sent)) where
     here : IsIn m w.mail
     here = IsIn-get w.mail i m t.place
 
     ward : is_warden m.from ≡ true → ⊥
     ward = no_warden p pos w q calm m here
 
-    note : (v : Version) (k : Key) (wid : Wid) (value : ℤ) (sure : Bool) (lost : Option Wid) → m.body ≡ Note v k wid value sure lost → v ≡ s.exec.ver → ((u : ℤ) × (record { wid = wid; value = value; sure = sure } ≡ first_value u)) × (lost ≡ None)
+    note : (v : Version) (k : Key) (wid : Wid) (value : ℤ) (sure : Bool) (lost : Option Wid) → m.body ≡ Note v k wid value sure lost → v ≡ s.exec.ver →
+        ((u : ℤ) × (record { wid = wid; value = value; sure = sure } ≡ first_value u)) × (lost ≡ None)
     note v k wid value sure lost b = note_first p pos w q calm c n Try o v k wid value sure lost (record { envelope = m; there = here; body = b })
 
     old : (v y : Version) → m.body ≡ TooOld v y → v ≡ s.exec.ver → ⊥
@@ -92,20 +97,24 @@ module _ (p : Plan) (pos : 0 < p.replicas) (w : World) (q : Reach p w) (calm : I
       | inr y ↦ (let g : Replica r ≡ Client c = sym f ∙ ap (λ (x : Envelope). x.to) y ∙ to in cc)
     ]
 
-    pending_comes : (given : Bool) → s.phase ≡ Running true given → Stands p w c s (Running true given) → Moved p c n w' s (comes_running (rules p c) s true m.from m.body)
+    pending_comes : (given : Bool) → s.phase ≡ Running true given → Stands p w c s (Running true given) →
+        Moved p c n w' s (comes_running (rules p c) s true m.from m.body)
     pending_comes given e z = go (running_hears (rules p c) s z.0 z.1 (not_pending s.phase e) true m.from m.body ward note old)
       where
         not_pending : (h : Phase) → h ≡ Running true given → has_pending h ≡ false → (walk (rules p c) s).ending ≡ None
         not_pending h e f = let g : true ≡ false = subst (λ (h : Phase). has_pending h ≡ false) e f in cc
 
-        go : Hears (rules p c) s z.0 z.1 (not_pending s.phase e) true m.body (comes_running (rules p c) s true m.from m.body) → Moved p c n w' s (comes_running (rules p c) s true m.from m.body)
+        go : Hears (rules p c) s z.0 z.1 (not_pending s.phase e) true m.body (comes_running (rules p c) s true m.from m.body) →
+            Moved p c n w' s (comes_running (rules p c) s true m.from m.body)
         go (Ignored f e') = same_turn _ (idle s) e' (Still refl refl refl (subst (λ (h : Phase). Stands p w' c s h) (sym e) z))
         go (Answered f k v a e') = cc
 
-    asking_comes : (given : Bool) → s.phase ≡ Running false given → Stands p w c s (Running false given) → Moved p c n w' s (comes_running (rules p c) s false m.from m.body)
+    asking_comes : (given : Bool) → s.phase ≡ Running false given → Stands p w c s (Running false given) →
+        Moved p c n w' s (comes_running (rules p c) s false m.from m.body)
     asking_comes given e z = go (running_hears (rules p c) s z.0.0 z.0.1 (λ f. z.1) false m.from m.body ward note old)
       where
-        go : Hears (rules p c) s z.0.0 z.0.1 (λ f. z.1) false m.body (comes_running (rules p c) s false m.from m.body) → Moved p c n w' s (comes_running (rules p c) s false m.from m.body)
+        go : Hears (rules p c) s z.0.0 z.0.1 (λ f. z.1) false m.body (comes_running (rules p c) s false m.from m.body) →
+            Moved p c n w' s (comes_running (rules p c) s false m.from m.body)
         go (Ignored f e') = same_turn _ (idle s) e' (Still refl refl refl (subst (λ (h : Phase). Stands p w' c s h) (sym e) (z.0, z.1, (z.2.0, z.2.1, asks z.2.2))))
           where
             asks : Question w c s.exec z.2.0 → Question w' c s.exec z.2.0
@@ -117,11 +126,13 @@ module _ (p : Plan) (pos : 0 < p.replicas) (w : World) (q : Reach p w) (calm : I
         go (Answered f k v a e') = same_turn _ (idle (answered s (first_value v))) e'
             (Still refl refl refl (z.0.0 ++ v ∷ [], ap (λ (l : List Answer). l ++ clean v ∷ []) z.0.1 ∙ map_more z.0.0 v))
 
-    prepared_comes : (k : Content) (votes : List CountedVote) (accepts : List ℕ) → s.phase ≡ Prepared k votes None accepts → Stands p w c s (Prepared k votes None accepts) → Moved p c n w' s (comes_prepared (rules p c) s k votes None accepts m.from m.body)
+    prepared_comes : (k : Content) (votes : List CountedVote) (accepts : List ℕ) → s.phase ≡ Prepared k votes None accepts →
+        Stands p w c s (Prepared k votes None accepts) → Moved p c n w' s (comes_prepared (rules p c) s k votes None accepts m.from m.body)
     unfolding comes
     prepared_comes k votes accepts e z = go (prepared_hears (rules p c) s k votes accepts e z.1 m.from m.body ward commit)
       where
-        go : Counts (rules p c) s k votes m.from m.body (comes_prepared (rules p c) s k votes None accepts m.from m.body) → Moved p c n w' s (comes_prepared (rules p c) s k votes None accepts m.from m.body)
+        go : Counts (rules p c) s k votes m.from m.body (comes_prepared (rules p c) s k votes None accepts m.from m.body) →
+            Moved p c n w' s (comes_prepared (rules p c) s k votes None accepts m.from m.body)
         go (Ignores l e' f) = same_turn _ (idle (record s { answers = l })) e' (Still refl refl refl (subst (λ (h : Phase). Stands p w' c (record s { answers = l }) h) (sym e) (refl, z.1, z.2, λ r a b. ballot r a b (z.3 r a b))))
           where
             ballot : (r : ℕ) → 0 < r → r ≤ p.replicas → Ballot w c s.exec k votes r → Ballot w' c s.exec k votes r
@@ -162,7 +173,8 @@ module _ (p : Plan) (pos : 0 < p.replicas) (w : World) (q : Reach p w) (calm : I
     comes_moves (Prepared k votes (Some d) accepts) e z = let f = z.0 in cc
 
   -- its segment is given back
-  module _ (given : Bool) (e : s.phase ≡ Running true given) (z : IsClean s) (asks : AsksOrEnds p) (t : Acts w w' (flat_map (to_all p.replicas (Client c)) (ran (rules p c) s given).sent)) where
+  module _ (given : Bool) (e : s.phase
+      ≡ Running true given) (z : IsClean s) (asks : AsksOrEnds p) (t : Acts w w' (flat_map (to_all p.replicas (Client c)) (ran (rules p c) s given).sent)) where
     no_vote : (r : ℕ) → vote (w.replica r) s.exec ≡ None
     no_vote r = go (vote (w.replica r) s.exec) refl
       where
@@ -185,7 +197,8 @@ module _ (p : Plan) (pos : 0 < p.replicas) (w : World) (q : Reach p w) (calm : I
     abbrev Out : List Body
     Out = one_when (may_put (walk (rules p c) s).ending && (wrote (rules p c) s || (not given && nat_lt 0 s.exec.eid))) (Puts s.exec (walk (rules p c) s).writes) ++ question s.exec (walk (rules p c) s).asks
 
-    sends : (b : Body) (bs : List Body) (r : ℕ) → 0 < r → r ≤ p.replicas → Acts w w' (flat_map (to_all p.replicas (Client c)) bs) → IsIn b bs → IsWaiting w' (record { from = Client c; to = Replica r; body = b })
+    sends : (b : Body) (bs : List Body) (r : ℕ) → 0 < r → r ≤ p.replicas → Acts w w' (flat_map (to_all p.replicas (Client c)) bs) → IsIn b bs →
+        IsWaiting w' (record { from = Client c; to = Replica r; body = b })
     sends b bs r l v a j = acts_sends w w' (flat_map (to_all p.replicas (Client c)) bs) _ calm.marks a (to_each p.replicas c bs b r l v j)
 
     pub ran_moves : Moved p c n w' s (ran (rules p c) s given)
@@ -202,10 +215,12 @@ module _ (p : Plan) (pos : 0 < p.replicas) (w : World) (q : Reach p w) (calm : I
             acts = subst (λ (y : Turn). Acts w w' (flat_map (to_all p.replicas (Client c)) y.sent)) whole t
 
             program : walk (rules p c) s ≡ u.program.0.walk (values s.answers)
-            program = ap (λ (m : ℕ). walk_at (slice_get (rules p c).txns (m - 1)) (values s.answers)) u.begun ∙ ap (λ (y : Option Txn). walk_at y (values s.answers)) u.program.1
+            program = ap (λ (m : ℕ). walk_at (slice_get (rules p c).txns (m - 1)) (values s.answers)) u.begun
+                ∙ ap (λ (y : Option Txn). walk_at y (values s.answers)) u.program.1
 
             k : (k : Key) × ((walk (rules p c) s).asks ≡ Some k)
-            k = let y = asks c (n - 1) u.program.0 u.program.1 (values s.answers) (ap (λ (x : Walk). x.ending) (sym program) ∙ f) in (y.0, ap (λ (x : Walk). x.asks) program ∙ y.1)
+            k = let y = asks c (n - 1) u.program.0 u.program.1 (values s.answers) (ap (λ (x : Walk). x.ending) (sym program) ∙ f) in
+                (y.0, ap (λ (x : Walk). x.asks) program ∙ y.1)
 
             asked : IsIn (Get s.exec k.0) Out
             asked = IsIn-right (Get s.exec k.0) (one_when (may_put (walk (rules p c) s).ending && (wrote (rules p c) s || (not given && nat_lt 0 s.exec.eid))) (Puts s.exec (walk (rules p c) s).writes)) (question s.exec (walk (rules p c) s).asks)

@@ -45,19 +45,23 @@ pub data Does (p : Plan) (w w' : World) : Type 0 where
       → ClientAlone w w' c (comes (rules p c) (w.client c) (w.client c).phase m.from m.body).state → Does p w w'
   Client_goes : (c : ℕ) → can_go (rules p c) (w.client c) ≡ true → Acts w w' (flat_map (to_all p.replicas (Client c)) (go (rules p c) (w.client c)).sent)
       → ClientAlone w w' c (go (rules p c) (w.client c)).state → Does p w w'
-  Client_runs : (c : ℕ) (given : Bool) → (w.client c).phase ≡ Running true given → Acts w w' (flat_map (to_all p.replicas (Client c)) (ran (rules p c) (w.client c) given).sent)
+  Client_runs : (c : ℕ) (given : Bool) → (w.client c).phase ≡ Running true given →
+      Acts w w' (flat_map (to_all p.replicas (Client c)) (ran (rules p c) (w.client c) given).sent)
       → ClientAlone w w' c (ran (rules p c) (w.client c) given).state → Does p w w'
   Replica_takes : (r i : ℕ) (m : Envelope) → m.to ≡ Replica r → Takes w w' i m (says p.firsts r (w.replica r) m)
       → w'.client ≡ w.client → w'.replica ≡ at r (after_taking (w.replica r) m) w.replica → w'.warden ≡ w.warden → Does p w w'
-  Warden_takes : (k i : ℕ) (m : Envelope) → m.to ≡ Warden k → Takes w w' i m (flat_map (parcel p.replicas (Warden k)) (warden_hears (warden_rules p k) (w.warden k) m.from m.body).sent)
-      → w'.client ≡ w.client → w'.replica ≡ w.replica → w'.warden ≡ at k (warden_hears (warden_rules p k) (w.warden k) m.from m.body).state w.warden → Does p w w'
+  Warden_takes : (k i : ℕ) (m : Envelope) → m.to ≡ Warden k →
+      Takes w w' i m (flat_map (parcel p.replicas (Warden k)) (warden_hears (warden_rules p k) (w.warden k) m.from m.body).sent)
+      → w'.client ≡ w.client → w'.replica ≡ w.replica → w'.warden ≡ at k (warden_hears (warden_rules p k) (w.warden k) m.from m.body).state w.warden →
+      Does p w w'
 
 -- the world after a move
 abbrev pub moved_to : World → Move → World
 moved_to w v = record v.world { mail = w.mail ++ v.sent; moved = w.moved + 1 }
 
 module _ (p : Plan) (w : World) where
-  client_takes : (c i : ℕ) (m : Envelope) → m.to ≡ Client c → slice_get w.mail i ≡ Some m → (v : Move) → client_input p w c (Comes m.from m.body) ≡ Some v → Does p w (moved_to w (mark i v))
+  client_takes : (c i : ℕ) (m : Envelope) → m.to ≡ Client c → slice_get w.mail i ≡ Some m → (v : Move) → client_input p w c (Comes m.from m.body) ≡ Some v →
+      Does p w (moved_to w (mark i v))
   unfolding client_step client_moves
   client_takes c i m to q v e = let f : client_moves p w c (comes (rules p c) (w.client c) (w.client c).phase m.from m.body) ≡ v = cc in
       subst (λ (u : Move). Does p w (moved_to w (mark i u))) f
@@ -67,7 +71,8 @@ module _ (p : Plan) (w : World) where
   unfolding client_step client_moves
   client_goes c v e = by (can_go (rules p c) (w.client c)) refl e
     where
-      by : (t : Bool) → can_go (rules p c) (w.client c) ≡ t → option_map (client_moves p w c) (then_some t (go (rules p c) (w.client c))) ≡ Some v → Does p w (moved_to w v)
+      by : (t : Bool) → can_go (rules p c) (w.client c) ≡ t → option_map (client_moves p w c) (then_some t (go (rules p c) (w.client c))) ≡ Some v →
+          Does p w (moved_to w v)
       by true q e = let f : client_moves p w c (go (rules p c) (w.client c)) ≡ v = cc in
           subst (λ (u : Move). Does p w (moved_to w u)) f (Client_goes c q (record { delivered = refl; mail = refl }) (record { client = refl; replica = refl; warden = refl }))
       by false q e = cc
@@ -83,17 +88,20 @@ module _ (p : Plan) (w : World) where
       by Between q e = cc
       by (Prepared k vs o acs) q e = cc
 
-  replica_takes : (r i : ℕ) (m : Envelope) → m.to ≡ Replica r → slice_get w.mail i ≡ Some m → (v : Move) → Some (replica_moves p w r m) ≡ Some v → Does p w (moved_to w (mark i v))
+  replica_takes : (r i : ℕ) (m : Envelope) → m.to ≡ Replica r → slice_get w.mail i ≡ Some m → (v : Move) → Some (replica_moves p w r m) ≡ Some v →
+      Does p w (moved_to w (mark i v))
   unfolding replica_moves
   replica_takes r i m to q v e = let f : replica_moves p w r m ≡ v = cc in
       subst (λ (u : Move). Does p w (moved_to w (mark i u))) f (Replica_takes r i m to (record { place = q; delivered = refl; mail = refl }) refl refl refl)
 
-  warden_takes : (k i : ℕ) (m : Envelope) → m.to ≡ Warden k → slice_get w.mail i ≡ Some m → (v : Move) → warden_input p w k (Hears m.from m.body) ≡ Some v → Does p w (moved_to w (mark i v))
+  warden_takes : (k i : ℕ) (m : Envelope) → m.to ≡ Warden k → slice_get w.mail i ≡ Some m → (v : Move) → warden_input p w k (Hears m.from m.body) ≡ Some v →
+      Does p w (moved_to w (mark i v))
   unfolding warden_step warden_moves
   warden_takes k i m to q v e = let f : warden_moves p w k (warden_hears (warden_rules p k) (w.warden k) m.from m.body) ≡ v = cc in
       subst (λ (u : Move). Does p w (moved_to w (mark i u))) f (Warden_takes k i m to (record { place = q; delivered = refl; mail = refl }) refl refl refl)
 
-  receives_does : (node : NodeId) (i : ℕ) (m : Envelope) → m.to ≡ node → slice_get w.mail i ≡ Some m → (v : Move) → receives p w node m ≡ Some v → Does p w (moved_to w (mark i v))
+  receives_does : (node : NodeId) (i : ℕ) (m : Envelope) → m.to ≡ node → slice_get w.mail i ≡ Some m → (v : Move) → receives p w node m ≡ Some v →
+      Does p w (moved_to w (mark i v))
   receives_does (Client c) i m to q v e = client_takes c i m to q v e
   receives_does (Replica r) i m to q v e = replica_takes r i m to q v e
   receives_does (Warden k) i m to q v e = warden_takes k i m to q v e
@@ -101,11 +109,13 @@ module _ (p : Plan) (w : World) where
   delivers_does : (node : NodeId) (i : ℕ) (v : Move) → delivers p w node i (slice_get w.mail i) ≡ Some v → Does p w (moved_to w v)
   delivers_does node i v e = by (slice_get w.mail i) refl e
     where
-      with : (m : Envelope) (o : Option Move) → m.to ≡ node → slice_get w.mail i ≡ Some m → receives p w node m ≡ o → option_map (mark i) o ≡ Some v → Does p w (moved_to w v)
+      with : (m : Envelope) (o : Option Move) → m.to ≡ node → slice_get w.mail i ≡ Some m → receives p w node m ≡ o → option_map (mark i) o ≡ Some v →
+          Does p w (moved_to w v)
       with m None to q z e = cc
       with m (Some u) to q z e = let f : mark i u ≡ v = cc in subst (λ (y : Move). Does p w (moved_to w y)) f (receives_does node i m to q u z)
 
-      here : (m : Envelope) (t : Bool) → slice_get w.mail i ≡ Some m → same_node node m.to ≡ t → cond t (option_map (mark i) (receives p w node m)) None ≡ Some v → Does p w (moved_to w v)
+      here : (m : Envelope) (t : Bool) → slice_get w.mail i ≡ Some m → same_node node m.to ≡ t →
+          cond t (option_map (mark i) (receives p w node m)) None ≡ Some v → Does p w (moved_to w v)
       here m true q s e = with m (receives p w node m) (sym (same_node_is node m.to s)) q refl e
       here m false q s e = cc
 

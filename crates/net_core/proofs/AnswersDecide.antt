@@ -85,7 +85,11 @@ module _ (m l : Machine) (nodes : m.nodes ≡ l.nodes) where
 
   fair_same : (h : History) → Agree m l h → AreOfNodes m h → AllFair m h → AllFair l h
   fair_same [] a i f = tt
-  fair_same (Picked n pick ∷ h) a i f = (f.0 ∙ ap (λ (x : Menu). fair (picks n h) x) ((here h a.2).menu n (and_first (has_node m n) _ i)), fair_same h a.2 (and_second (has_node m n) _ i) f.1)
+  fair_same (Picked n pick ∷ h) a i f = (
+    f.0
+        ∙ ap (λ (x : Menu). fair (picks n h) x) ((here h a.2).menu n (and_first (has_node m n) _ i)),
+    fair_same h a.2 (and_second (has_node m n) _ i) f.1,
+  )
   fair_same (Ran c ∷ h) a i f = fair_same h a.2 (and_second (has_node m (Client c)) _ i) f
 
   quiet_same : (h : History) → Agree m l h → is_quiet m h ≡ is_quiet l h
@@ -95,7 +99,8 @@ module _ (m l : Machine) (nodes : m.nodes ≡ l.nodes) where
   out_same turns h a n i = let live = (here h a).live n i in let marked = marked_same h a n in cc
 
   some_out_same : (turns : ℕ) (h : History) → Agree m l h → list_any (is_out_of_turns m turns h) m.nodes ≡ list_any (is_out_of_turns l turns h) l.nodes
-  some_out_same turns h a = any_same (is_out_of_turns m turns h) (is_out_of_turns l turns h) m.nodes (out_same turns h a) ∙ ap (list_any (is_out_of_turns l turns h)) nodes
+  some_out_same turns h a = any_same (is_out_of_turns m turns h) (is_out_of_turns l turns h) m.nodes (out_same turns h a)
+      ∙ ap (list_any (is_out_of_turns l turns h)) nodes
 
   end_same : (turns : ℕ) (h : History) → Agree m l h → end_of m turns h ≡ end_of l turns h
   end_same turns h a = let full = full_same h a in let quiet = quiet_same h a in let out = some_out_same turns h a in cc
@@ -132,7 +137,8 @@ answers_decide m l h nodes a =
     }
 
 -- a fair run goes over from one machine to the other
-fair_run_along : (m l : Machine) (h : History) → m.nodes ≡ l.nodes → Agree m l h → (turns : ℕ) (ended : Ended) → IsFairRun m turns h ended → IsFairRun l turns h ended
+fair_run_along : (m l : Machine) (h : History) → m.nodes ≡ l.nodes → Agree m l h → (turns : ℕ) (ended : Ended) → IsFairRun m turns h ended →
+    IsFairRun l turns h ended
 fair_run_along m l h nodes a turns ended run = record {
   rounds = rounds_same m l nodes turns h a run.rounds;
   fair = fair_same m l nodes h a (turns_of_nodes m turns h run.rounds.turn_by_turn) run.fair;

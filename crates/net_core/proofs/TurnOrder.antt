@@ -53,17 +53,22 @@ module _ (q : NodeId → Bool) where
   order_all n [] = refl
   order_all n (m ∷ ms) = go (same_node n m) (order_all n ms)
     where
-      go : (b : Bool) → list_all q (nodes_after n ms ++ nodes_upto n ms) ≡ list_all q ms → list_all q (cond b ms (nodes_after n ms) ++ cond b (m ∷ []) (m ∷ nodes_upto n ms)) ≡ (q m && list_all q ms)
+      go : (b : Bool) → list_all q (nodes_after n ms ++ nodes_upto n ms) ≡ list_all q ms →
+          list_all q (cond b ms (nodes_after n ms) ++ cond b (m ∷ []) (m ∷ nodes_upto n ms)) ≡ (q m && list_all q ms)
       go true ih = list_all-append q ms (m ∷ []) ∙ both_swap (list_all q ms) (list_all q (m ∷ [])) ∙ ap (λ b. b && list_all q ms) (both_true (q m))
-      go false ih = list_all-append q (nodes_after n ms) (m ∷ nodes_upto n ms) ∙ both_third (list_all q (nodes_after n ms)) (q m) (list_all q (nodes_upto n ms)) ∙ ap (λ b. q m && b) (sym (list_all-append q (nodes_after n ms) (nodes_upto n ms)) ∙ ih)
+      go false ih = list_all-append q (nodes_after n ms) (m ∷ nodes_upto n ms)
+          ∙ both_third (list_all q (nodes_after n ms)) (q m) (list_all q (nodes_upto n ms))
+          ∙ ap (λ b. q m && b) (sym (list_all-append q (nodes_after n ms) (nodes_upto n ms)) ∙ ih)
 
   order_any : (n : NodeId) (ns : List NodeId) → list_any q (nodes_after n ns ++ nodes_upto n ns) ≡ list_any q ns
   order_any n [] = refl
   order_any n (m ∷ ms) = go (same_node n m) (order_any n ms)
     where
-      go : (b : Bool) → list_any q (nodes_after n ms ++ nodes_upto n ms) ≡ list_any q ms → list_any q (cond b ms (nodes_after n ms) ++ cond b (m ∷ []) (m ∷ nodes_upto n ms)) ≡ (q m || list_any q ms)
+      go : (b : Bool) → list_any q (nodes_after n ms ++ nodes_upto n ms) ≡ list_any q ms →
+          list_any q (cond b ms (nodes_after n ms) ++ cond b (m ∷ []) (m ∷ nodes_upto n ms)) ≡ (q m || list_any q ms)
       go true ih = list_any-append q ms (m ∷ []) ∙ or_swap (list_any q ms) (list_any q (m ∷ [])) ∙ ap (λ b. b || list_any q ms) (or_false (q m))
-      go false ih = list_any-append q (nodes_after n ms) (m ∷ nodes_upto n ms) ∙ or_third (list_any q (nodes_after n ms)) (q m) (list_any q (nodes_upto n ms)) ∙ ap (λ b. q m || b) (sym (list_any-append q (nodes_after n ms) (nodes_upto n ms)) ∙ ih)
+      go false ih = list_any-append q (nodes_after n ms) (m ∷ nodes_upto n ms) ∙ or_third (list_any q (nodes_after n ms)) (q m) (list_any q (nodes_upto n ms))
+          ∙ ap (λ b. q m || b) (sym (list_any-append q (nodes_after n ms) (nodes_upto n ms)) ∙ ih)
 
   -- what all nodes pass, and what some node passes, does not depend on whose turn it is
   pub all_in_order : (ns : List NodeId) (h : History) → list_all q (turn_order ns h) ≡ list_all q ns
@@ -100,7 +105,8 @@ module _ (p q : NodeId → Bool) where
 
   pub find_same : (ns : List NodeId) → ((n : NodeId) → is_among ns n ≡ true → p n ≡ q n) → find p ns ≡ find q ns
   find_same [] same = refl
-  find_same (m ∷ ms) same = ap (λ b. cond b (Some m) (find p ms)) (same m (first_among m ms)) ∙ ap (λ (o : Option NodeId). cond (q m) (Some m) o) (find_same ms (later m ms same))
+  find_same (m ∷ ms) same = ap (λ b. cond b (Some m) (find p ms)) (same m (first_among m ms))
+      ∙ ap (λ (o : Option NodeId). cond (q m) (Some m) o) (find_same ms (later m ms same))
 
   pub all_same : (ns : List NodeId) → ((n : NodeId) → is_among ns n ≡ true → p n ≡ q n) → list_all p ns ≡ list_all q ns
   all_same [] same = refl

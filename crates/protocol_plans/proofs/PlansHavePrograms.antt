@@ -17,12 +17,16 @@ use Rattle.std.proofs.lemmas.List.{map-append}
 pub program_asks : (p : Program) → IsProgramWalk (program_walk p)
 program_asks p = record { asked = λ vs i k e. go vs i k (slice_get (replay_of p vs).reads i) refl (sym (slice_get-map (λ (x : Entry). x.key) (replay_of p vs).reads i) ∙ e) }
   where
-    go : (vs : List ℤ) (i : ℕ) (k : Key) (o : Option Entry) → slice_get (replay_of p vs).reads i ≡ o → option_map (λ (x : Entry). x.key) o ≡ Some k → (replay_of p (take i vs)).asks ≡ Some k
+    go : (vs : List ℤ) (i : ℕ) (k : Key) (o : Option Entry) → slice_get (replay_of p vs).reads i ≡ o → option_map (λ (x : Entry). x.key) o ≡ Some k →
+        (replay_of p (take i vs)).asks ≡ Some k
     go vs i k None q e = absurd cc
     go vs i k (Some x) q e = let a = ((reads_what_it_asked p.body _).each vs i x q).0 in let same : x.key ≡ k = cc in a ∙ ap (λ (l : Key). Some l) same
 
 pub program_writes : (p : Program) → WritesGrow (program_walk p)
-program_writes p = record { more = λ vs us. let w = (grows p.body _ vs us).writes in (map write_of w.0, ap (map write_of) w.1 ∙ map-append write_of (replay_of p vs).writes w.0) }
+program_writes p = record {
+  more = λ vs us. let w = (grows p.body _ vs us).writes in
+      (map write_of w.0, ap (map write_of) w.1 ∙ map-append write_of (replay_of p vs).writes w.0);
+}
 
 pub programs_walk : ProgramsWalk
 programs_walk p = (program_asks p, program_writes p)
