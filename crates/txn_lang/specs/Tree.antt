@@ -9,28 +9,38 @@ use Rattle.txn_lang.specs.declared.tree.Stmt.TheOpen.{Stmt-F, Block-F}
 use Rattle.txn_lang.specs.declared.tree.Stmt.TheFolds.{fold-Stmt}
 use Rattle.txn_lang.specs.declared.tree.Block.{Block}
 
--- an expression
-pub data Term : Type 0 where
-  Num : (number : ℤ) → Term
-  Local : (local : ℕ) → Term
-  Neg : (a : Term) → Term
-  Not : (a : Term) → Term
-  Bin : (op : BinOp) (a b : Term) → Term
+-- an expression, over what stands for its numbers and its locals
+pub data TermOf (Number Name : Type 0) : Type 0 where
+  Num : (number : Number) → TermOf Number Name
+  Local : (local : Name) → TermOf Number Name
+  Neg : (a : TermOf Number Name) → TermOf Number Name
+  Not : (a : TermOf Number Name) → TermOf Number Name
+  Bin : (op : BinOp) (a b : TermOf Number Name) → TermOf Number Name
 
--- a statement, and statements one after another
+-- a statement, and statements one after another, over these, what stands for tables too, and for the times of a repeat
 mutual
-  pub data Command : Type 0 where
-    Let : (local : ℕ) (e : Term) → Command
-    Read : (local table : ℕ) (index : Term) → Command
-    Write : (table : ℕ) (index e : Term) → Command
-    Print : (e : Term) → Command
-    If : (e : Term) (then_block else_block : Commands) → Command
-    Repeat : (times : ℕ) (body : Commands) → Command
-    Abort : Command
+  pub data CommandOf (Number Times Name : Type 0) : Type 0 where
+    Let : (local : Name) (e : TermOf Number Name) → CommandOf Number Times Name
+    Read : (local table : Name) (index : TermOf Number Name) → CommandOf Number Times Name
+    Write : (table : Name) (index e : TermOf Number Name) → CommandOf Number Times Name
+    Print : (e : TermOf Number Name) → CommandOf Number Times Name
+    If : (e : TermOf Number Name) (then_block else_block : CommandsOf Number Times Name) → CommandOf Number Times Name
+    Repeat : (times : Times) (body : CommandsOf Number Times Name) → CommandOf Number Times Name
+    Abort : CommandOf Number Times Name
 
-  pub data Commands : Type 0 where
-    End : Commands
-    Then : (first : Command) (rest : Commands) → Commands
+  pub data CommandsOf (Number Times Name : Type 0) : Type 0 where
+    End : CommandsOf Number Times Name
+    Then : (first : CommandOf Number Times Name) (rest : CommandsOf Number Times Name) → CommandsOf Number Times Name
+
+-- those of programs: numbers are numbers, and locals and tables are told by theirs
+abbrev pub Term : Type 0
+Term = TermOf ℤ ℕ
+
+abbrev pub Command : Type 0
+Command = CommandOf ℤ ℕ ℕ
+
+abbrev pub Commands : Type 0
+Commands = CommandsOf ℤ ℕ ℕ
 
 abbrev pub term_step : Expr-F Term → Term
 term_step (Expr-F.Num n) = Num n

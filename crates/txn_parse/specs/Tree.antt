@@ -1,6 +1,7 @@
--- Trees with a token for each name and number, without their boxes and lists.
+-- Programs as they are read: the trees of the language, with a token for each name and number.
 use Rattle.std.specs.Prelude.{List, [], ◌∷◌, map}
-use Rattle.txn_lang.specs.declared.tree.BinOp.{BinOp}
+pub use Rattle.txn_lang.specs.Tree.{Num, Local, Neg, Not, Bin, Let, Read, Write, Print, If, Repeat, Abort, End, Then}
+use Rattle.txn_lang.specs.Tree.{TermOf, CommandOf, CommandsOf}
 use Rattle.txn_text.specs.declared.kinds.Token.{Token}
 use Rattle.txn_parse.specs.declared.tree.RawExpr.{RawExpr}
 use Rattle.txn_parse.specs.declared.tree.RawExpr.TheOpen.{RawExpr-F}
@@ -10,28 +11,14 @@ use Rattle.txn_parse.specs.declared.tree.RawStmt.TheOpen.{RawStmt-F, RawBlock-F}
 use Rattle.txn_parse.specs.declared.tree.RawStmt.TheFolds.{fold-RawStmt}
 use Rattle.txn_parse.specs.declared.tree.RawBlock.{RawBlock}
 
--- an expression
-pub data Term : Type 0 where
-  Num : (number : Token) → Term
-  Local : (name : Token) → Term
-  Neg : (a : Term) → Term
-  Not : (a : Term) → Term
-  Bin : (op : BinOp) (a b : Term) → Term
+abbrev pub Term : Type 0
+Term = TermOf Token Token
 
--- a statement, and statements one after another
-mutual
-  pub data Command : Type 0 where
-    Let : (name : Token) (e : Term) → Command
-    Read : (name table : Token) (index : Term) → Command
-    Write : (table : Token) (index e : Term) → Command
-    Print : (e : Term) → Command
-    If : (e : Term) (then_block else_block : Commands) → Command
-    Repeat : (times : Token) (body : Commands) → Command
-    Abort : Command
+abbrev pub Command : Type 0
+Command = CommandOf Token Token Token
 
-  pub data Commands : Type 0 where
-    End : Commands
-    Then : (first : Command) (rest : Commands) → Commands
+abbrev pub Commands : Type 0
+Commands = CommandsOf Token Token Token
 
 abbrev pub term_step : RawExpr-F Term → Term
 term_step (RawExpr-F.Num n) = Num n
