@@ -150,7 +150,7 @@ fn all_voted_commit(rt: HostRuntime) -> Result<(), Fail> {
     let warden = recovering(alloc, 1, &heard, &mut out)?;
     assert!(rt; is_sent(out.as_slice(), &want));
     assert_eq!(rt; warden.decided(EXEC), None);
-    assert!(rt; warden.can_recover(EXEC) && warden.is_recovering(EXEC));
+    assert!(rt; warden.can_recover(EXEC) && warden.recovering(EXEC));
     Ok(())
 }
 
@@ -188,6 +188,7 @@ fn accepted_pair_binds(rt: HostRuntime) -> Result<(), Fail> {
     let warden = recovering(alloc, 2, &heard, &mut out)?;
     assert!(rt; is_sent(out.as_slice(), &want));
     assert_eq!(rt; warden.decided(EXEC), Some(Choice::Commit));
-    assert!(rt; warden.content(EXEC).is_some() && !warden.can_recover(EXEC));
+    let content = warden.content(alloc, EXEC)?;
+    assert!(rt; content.is_some() && !warden.can_recover(EXEC));
     Ok(())
 }

@@ -1,10 +1,11 @@
-ghost use Rattle.std.specs.Prelude.{◌≡◌, find};
+ghost use Rattle.std.specs.Prelude.{◌≡◌, find, IfOk};
 ghost use Rattle.std.specs.Option.{option_copied};
 ghost use Rattle.morty_base.specs.Names.{same_exec};
 
 use crate::proposal::Proposal;
-use morty_base::{Exec, is_same_exec};
-use msg::{Choice, Content};
+use morty_base::{Exec, NoMemory, is_same_exec};
+use msg::{Choice, Content, copy_content};
+use std::alloc::Global;
 use std::marker::Model;
 
 /// What this warden decided of an execution.
@@ -29,10 +30,10 @@ impl Decision {
         self.proposal.choice()
     }
 
-    pub fn content(&self) -> Option<&Content>
-        ensures { option_copied result ≡ self.now.proposal.content }
+    pub fn copy_content(&self, alloc: Global) -> Result<Option<Content>, NoMemory>
+        ensures { IfOk result (λ content. content ≡ self.now.proposal.content) }
     {
-        self.proposal.content()
+        copy_content(alloc, &self.proposal.content)
     }
 
     fn is_about(&self, exec: Exec) -> bool

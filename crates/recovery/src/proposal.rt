@@ -48,12 +48,6 @@ impl Proposal {
         self.choice
     }
 
-    pub fn content(&self) -> Option<&Content>
-        ensures { option_copied result ≡ self.now.content }
-    {
-        self.content.as_ref()
-    }
-
     pub fn copy(&self, alloc: Global) -> Result<Proposal, NoMemory>
         ensures { IfOk result (λ p. p ≡ self.now) }
     {

@@ -1,5 +1,4 @@
-ghost use Rattle.std.specs.Prelude.{◌≡◌, true, false, IsTrue, IsErr, OnOk, OnErr, is_none};
-ghost use Rattle.std.specs.Option.{option_copied};
+ghost use Rattle.std.specs.Prelude.{◌≡◌, ◌&&◌, true, false, IsTrue, IfOk, IsErr, OnOk, OnErr, is_none};
 ghost use Rattle.protocol.specs.Warden.Recovery.{recover, recovery_hears};
 ghost use Rattle.protocol.specs.Warden.Truncation.{is_recovering};
 ghost use Rattle.protocol.specs.Warden.State.{decision_on, fresh_warden};
@@ -112,19 +111,33 @@ impl Recoverer {
         Some(decision.choice())
     }
 
-    /// The content with which this warden decided to commit an execution.
-    pub fn content(&self, x: Exec) -> Option<&Content>
-        ensures { self.now.broken ≡ false → option_copied result ≡ decided_content self.now.state x }
+    /// A copy of the content with which this warden decided to commit an execution.
+    pub fn content(&self, alloc: Global, x: Exec) -> Result<Option<Content>, NoMemory>
+        ensures value { self.now.broken ≡ false → IfOk result (λ content. content ≡ decided_content self.now.state x) }
+        ensures broken { self.now.broken ≡ true → IsErr result }
     {
-        let decision = self.state.decision_on(x)?;
-        decision.content()
+        if self.broken {
+            return Err(NoMemory);
+        }
+        match self.state.decision_on(x) {
+            None => Ok(None),
+            Some(decision) => decision.copy_content(alloc),
+        }
     }
 
-    /// Whether this warden asked about an execution. One that it neither decided nor asked about can be recovered.
-    pub fn is_recovering(&self, x: Exec) -> bool
-        ensures asked { self.now.broken ≡ false → result ≡ is_recovering self.now.state x }
+    /// Whether this warden asked about an execution that it has not decided. One that it neither decided nor asked
+    /// about can be recovered.
+    pub fn recovering(&self, x: Exec) -> bool
+        ensures recovering { self.now.broken ≡ false → result ≡ (is_none (decision_on self.now.state x) && is_recovering self.now.state x) }
         ensures unasked { self.now.broken ≡ false → result ≡ false → is_none (decision_on self.now.state x) ≡ true → IsTrue (can_recover self.now x) }
     {
-        self.state.is_recovering(x)
+        self.state.is_undecided(x) && self.state.is_recovering(x)
+    }
+
+    /// Breaks it: the warden of which it is a part ran out of memory.
+    pub fn give_up(&mut self)
+        ensures { self.new ≡ record self.old { broken = true } }
+    {
+        self.broken = true;
     }
 }
