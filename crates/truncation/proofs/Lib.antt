@@ -1,0 +1,4 @@
+pub mod BaseLemmas
+pub mod NamedLemmas
+pub mod RecoveringLemmas
+pub mod TruncatorLemmas
