@@ -1,0 +1,10 @@
+pub mod AbandonTable
+pub mod ContentTable
+pub mod HeldByExec
+pub mod Holdings
+pub mod KeyList
+pub mod OpenWrites
+pub mod Orders
+pub mod PutTable
+pub mod ReaderList
+pub mod WriteIndex
