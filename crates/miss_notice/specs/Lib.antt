@@ -1,0 +1,2 @@
+pub mod Envelope2
+pub mod Notes
