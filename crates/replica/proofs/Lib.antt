@@ -1,0 +1,2 @@
+pub mod BallotTurns
+pub mod ReplicaTurns

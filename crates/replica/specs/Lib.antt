@@ -1,0 +1,4 @@
+pub mod Ballots
+pub mod Known
+pub mod Limits
+pub mod Replica
