@@ -7,14 +7,18 @@
 //! just where each of them rests (`QuietOrDue`). And each word of these files asks its machine of its own nodes at the
 //! moments of the history alone, so that two machines which answer those alike say the same (`AnswersDecide`).
 //!
-//! Apart from these stands the mail: what is kept of an envelope opens to it (`specs/Mail`, `proofs/Opening`).
+//! Apart from these stands the mail: what is kept of an envelope opens to it (`specs/Mail`, `proofs/Opening`); and what a
+//! script may plan for a node's link (`src/plan`).
 #![tactic(auto)]
 
 ghost use Rattle.net_core.specs.Laws.{QuietOrDue, AnswersDecide, FairRunsAgree};
 
 mod mail;
+mod plan;
 
 pub use mail::Mail;
+pub use msg::{Event, Pick};
+pub use plan::{LinkKind, LinkPlan, PlanItem, PlanWhat};
 
 /// No node is due exactly where the history is quiet.
 pub fn quiet_or_due()
