@@ -1,10 +1,10 @@
 ghost use Rattle.std.specs.Prelude.{◌≡◌};
-ghost use Rattle.txn_parse.specs.Symbols.{symbol_of, word_symbol, mark_symbol, compare_symbol, sign_symbol, logic_symbol, block_symbol, code, is};
+ghost use Rattle.txn_parse.specs.Symbols.{symbol_of, symbol_in, entries_of, code, is};
 
 use txn_lang::BinOp;
 use txn_text::{Token, TokenKind, token_text};
 
-/// What the grammar of blocks sees of a token.
+/// What the grammars of blocks and scripts see of a token.
 #[derive(Clone, Copy, Debug, PartialEq, Eq)]
 pub enum Symbol {
     Name,
@@ -27,104 +27,331 @@ pub enum Symbol {
     CloseIndex,
     OpenParen,
     CloseParen,
+    Dot,
+    Morty,
+    Replicas,
+    Wardens,
+    Tries,
+    Execs,
+    Gap,
+    Turns,
+    Policy,
+    Rewind,
+    Table,
+    First,
+    Program,
+    Client,
+    At,
+    Net,
+    Fair,
+    Seeded,
+    Listed,
+    Late,
+    Hurry,
+    List,
+    Go,
+    Stop,
+    Deliver,
+    Recover,
+    Truncate,
+    Wait,
+    Next,
+    Newest,
+    Replica,
+    Warden,
+    End,
     Other,
 }
 
-/// The symbol of a token. A token that no block has is `Other`.
+// A word or mark, and its symbol.
+#[derive(Clone, Copy)]
+pub struct Entry {
+    text: &'static [u8],
+    symbol: Symbol,
+}
+
+// The reserved words but `sum`, those of programs first.
+const WORDS: [Entry; 43] = [
+    Entry {
+        text: b"let",
+        symbol: Symbol::Let,
+    },
+    Entry {
+        text: b"read",
+        symbol: Symbol::Read,
+    },
+    Entry {
+        text: b"write",
+        symbol: Symbol::Write,
+    },
+    Entry {
+        text: b"print",
+        symbol: Symbol::Print,
+    },
+    Entry {
+        text: b"if",
+        symbol: Symbol::If,
+    },
+    Entry {
+        text: b"else",
+        symbol: Symbol::Else,
+    },
+    Entry {
+        text: b"repeat",
+        symbol: Symbol::Repeat,
+    },
+    Entry {
+        text: b"abort",
+        symbol: Symbol::Abort,
+    },
+    Entry {
+        text: b"not",
+        symbol: Symbol::Not,
+    },
+    Entry {
+        text: b"and",
+        symbol: Symbol::Op(BinOp::And),
+    },
+    Entry {
+        text: b"or",
+        symbol: Symbol::Op(BinOp::Or),
+    },
+    Entry {
+        text: b"at",
+        symbol: Symbol::At,
+    },
+    Entry {
+        text: b"client",
+        symbol: Symbol::Client,
+    },
+    Entry {
+        text: b"program",
+        symbol: Symbol::Program,
+    },
+    Entry {
+        text: b"first",
+        symbol: Symbol::First,
+    },
+    Entry {
+        text: b"table",
+        symbol: Symbol::Table,
+    },
+    Entry {
+        text: b"end",
+        symbol: Symbol::End,
+    },
+    Entry {
+        text: b"morty",
+        symbol: Symbol::Morty,
+    },
+    Entry {
+        text: b"replicas",
+        symbol: Symbol::Replicas,
+    },
+    Entry {
+        text: b"wardens",
+        symbol: Symbol::Wardens,
+    },
+    Entry {
+        text: b"tries",
+        symbol: Symbol::Tries,
+    },
+    Entry {
+        text: b"execs",
+        symbol: Symbol::Execs,
+    },
+    Entry {
+        text: b"gap",
+        symbol: Symbol::Gap,
+    },
+    Entry {
+        text: b"turns",
+        symbol: Symbol::Turns,
+    },
+    Entry {
+        text: b"policy",
+        symbol: Symbol::Policy,
+    },
+    Entry {
+        text: b"rewind",
+        symbol: Symbol::Rewind,
+    },
+    Entry {
+        text: b"net",
+        symbol: Symbol::Net,
+    },
+    Entry {
+        text: b"fair",
+        symbol: Symbol::Fair,
+    },
+    Entry {
+        text: b"seeded",
+        symbol: Symbol::Seeded,
+    },
+    Entry {
+        text: b"listed",
+        symbol: Symbol::Listed,
+    },
+    Entry {
+        text: b"late",
+        symbol: Symbol::Late,
+    },
+    Entry {
+        text: b"hurry",
+        symbol: Symbol::Hurry,
+    },
+    Entry {
+        text: b"list",
+        symbol: Symbol::List,
+    },
+    Entry {
+        text: b"go",
+        symbol: Symbol::Go,
+    },
+    Entry {
+        text: b"stop",
+        symbol: Symbol::Stop,
+    },
+    Entry {
+        text: b"deliver",
+        symbol: Symbol::Deliver,
+    },
+    Entry {
+        text: b"recover",
+        symbol: Symbol::Recover,
+    },
+    Entry {
+        text: b"truncate",
+        symbol: Symbol::Truncate,
+    },
+    Entry {
+        text: b"wait",
+        symbol: Symbol::Wait,
+    },
+    Entry {
+        text: b"next",
+        symbol: Symbol::Next,
+    },
+    Entry {
+        text: b"newest",
+        symbol: Symbol::Newest,
+    },
+    Entry {
+        text: b"replica",
+        symbol: Symbol::Replica,
+    },
+    Entry {
+        text: b"warden",
+        symbol: Symbol::Warden,
+    },
+];
+
+// The marks.
+const MARKS: [Entry; 20] = [
+    Entry {
+        text: b";",
+        symbol: Symbol::Semicolon,
+    },
+    Entry {
+        text: b"[",
+        symbol: Symbol::OpenIndex,
+    },
+    Entry {
+        text: b"]",
+        symbol: Symbol::CloseIndex,
+    },
+    Entry {
+        text: b"{",
+        symbol: Symbol::OpenBlock,
+    },
+    Entry {
+        text: b"}",
+        symbol: Symbol::CloseBlock,
+    },
+    Entry {
+        text: b"=",
+        symbol: Symbol::Assign,
+    },
+    Entry {
+        text: b"(",
+        symbol: Symbol::OpenParen,
+    },
+    Entry {
+        text: b")",
+        symbol: Symbol::CloseParen,
+    },
+    Entry {
+        text: b"+",
+        symbol: Symbol::Op(BinOp::Add),
+    },
+    Entry {
+        text: b"-",
+        symbol: Symbol::Op(BinOp::Sub),
+    },
+    Entry {
+        text: b"*",
+        symbol: Symbol::Op(BinOp::Mul),
+    },
+    Entry {
+        text: b"/",
+        symbol: Symbol::Op(BinOp::Div),
+    },
+    Entry {
+        text: b"%",
+        symbol: Symbol::Op(BinOp::Rem),
+    },
+    Entry {
+        text: b"==",
+        symbol: Symbol::Op(BinOp::Eq),
+    },
+    Entry {
+        text: b"!=",
+        symbol: Symbol::Op(BinOp::Ne),
+    },
+    Entry {
+        text: b"<",
+        symbol: Symbol::Op(BinOp::Lt),
+    },
+    Entry {
+        text: b"<=",
+        symbol: Symbol::Op(BinOp::Le),
+    },
+    Entry {
+        text: b">",
+        symbol: Symbol::Op(BinOp::Gt),
+    },
+    Entry {
+        text: b">=",
+        symbol: Symbol::Op(BinOp::Ge),
+    },
+    Entry {
+        text: b".",
+        symbol: Symbol::Dot,
+    },
+];
+
+// The symbol of the first entry with this text, if there is one.
+fn symbol_in(entries: &[Entry], text: &[u8]) -> Symbol
+    ensures { result ≡ symbol_in (entries_of entries.now) text.now }
+{
+    for entry in entries {
+        if entry.text == text {
+            return entry.symbol;
+        }
+    }
+    Symbol::Other
+}
+
+/// The symbol of a token. A token that no grammar has is `Other`.
+#[tactic(auto, unfolding(crate::specs::Symbols::words, crate::specs::Symbols::marks))]
 pub fn symbol_of(text: &[u8], token: Token) -> Symbol
     ensures { result ≡ symbol_of text.now token }
 {
     match token.kind {
         TokenKind::Name => Symbol::Name,
         TokenKind::Number => Symbol::Number,
-        TokenKind::Word => word_symbol(token_text(text, token)),
-        TokenKind::Sym => mark_symbol(token_text(text, token)),
-    }
-}
-
-#[tactic(auto, unfolding(crate::specs::Symbols::word_symbol))]
-fn word_symbol(word: &[u8]) -> Symbol
-    ensures { result ≡ word_symbol word.now }
-{
-    match word {
-        b"let" => Symbol::Let,
-        b"read" => Symbol::Read,
-        b"write" => Symbol::Write,
-        b"print" => Symbol::Print,
-        b"if" => Symbol::If,
-        _ => block_symbol(word),
-    }
-}
-
-#[tactic(auto, unfolding(crate::specs::Symbols::block_symbol))]
-fn block_symbol(word: &[u8]) -> Symbol
-    ensures { result ≡ block_symbol word.now }
-{
-    if word == b"repeat".as_slice() {
-        return Symbol::Repeat;
-    }
-    match word {
-        b"else" => Symbol::Else,
-        b"abort" => Symbol::Abort,
-        _ => logic_symbol(word),
-    }
-}
-
-#[tactic(auto, unfolding(crate::specs::Symbols::logic_symbol))]
-fn logic_symbol(word: &[u8]) -> Symbol
-    ensures { result ≡ logic_symbol word.now }
-{
-    match word {
-        b"not" => Symbol::Not,
-        b"and" => Symbol::Op(BinOp::And),
-        b"or" => Symbol::Op(BinOp::Or),
-        _ => Symbol::Other,
-    }
-}
-
-#[tactic(auto, unfolding(crate::specs::Symbols::mark_symbol))]
-fn mark_symbol(mark: &[u8]) -> Symbol
-    ensures { result ≡ mark_symbol mark.now }
-{
-    match mark {
-        b"=" => Symbol::Assign,
-        b";" => Symbol::Semicolon,
-        b"{" => Symbol::OpenBlock,
-        b"}" => Symbol::CloseBlock,
-        b"[" => Symbol::OpenIndex,
-        b"]" => Symbol::CloseIndex,
-        b"(" => Symbol::OpenParen,
-        b")" => Symbol::CloseParen,
-        _ => sign_symbol(mark),
-    }
-}
-
-#[tactic(auto, unfolding(crate::specs::Symbols::sign_symbol))]
-fn sign_symbol(sign: &[u8]) -> Symbol
-    ensures { result ≡ sign_symbol sign.now }
-{
-    match sign {
-        b"+" => Symbol::Op(BinOp::Add),
-        b"-" => Symbol::Op(BinOp::Sub),
-        b"*" => Symbol::Op(BinOp::Mul),
-        b"/" => Symbol::Op(BinOp::Div),
-        b"%" => Symbol::Op(BinOp::Rem),
-        _ => compare_symbol(sign),
-    }
-}
-
-#[tactic(auto, unfolding(crate::specs::Symbols::compare_symbol))]
-fn compare_symbol(sign: &[u8]) -> Symbol
-    ensures { result ≡ compare_symbol sign.now }
-{
-    match sign {
-        b"==" => Symbol::Op(BinOp::Eq),
-        b"!=" => Symbol::Op(BinOp::Ne),
-        b"<" => Symbol::Op(BinOp::Lt),
-        b"<=" => Symbol::Op(BinOp::Le),
-        b">" => Symbol::Op(BinOp::Gt),
-        b">=" => Symbol::Op(BinOp::Ge),
-        _ => Symbol::Other,
+        TokenKind::Word => symbol_in(&WORDS, token_text(text, token)),
+        TokenKind::Sym => symbol_in(&MARKS, token_text(text, token)),
     }
 }
 
@@ -144,16 +371,49 @@ fn code(symbol: Symbol) -> u8
         Symbol::Repeat => 8,
         Symbol::Abort => 9,
         Symbol::Not => 10,
-        Symbol::Assign => 11,
-        Symbol::Semicolon => 12,
-        Symbol::OpenBlock => 13,
-        Symbol::CloseBlock => 14,
-        Symbol::OpenIndex => 15,
-        Symbol::CloseIndex => 16,
-        Symbol::OpenParen => 17,
-        Symbol::CloseParen => 18,
-        Symbol::Op(_) => 19,
-        Symbol::Other => 20,
+        Symbol::Op(_) => 11,
+        Symbol::Assign => 12,
+        Symbol::Semicolon => 13,
+        Symbol::OpenBlock => 14,
+        Symbol::CloseBlock => 15,
+        Symbol::OpenIndex => 16,
+        Symbol::CloseIndex => 17,
+        Symbol::OpenParen => 18,
+        Symbol::CloseParen => 19,
+        Symbol::Dot => 20,
+        Symbol::Morty => 21,
+        Symbol::Replicas => 22,
+        Symbol::Wardens => 23,
+        Symbol::Tries => 24,
+        Symbol::Execs => 25,
+        Symbol::Gap => 26,
+        Symbol::Turns => 27,
+        Symbol::Policy => 28,
+        Symbol::Rewind => 29,
+        Symbol::Table => 30,
+        Symbol::First => 31,
+        Symbol::Program => 32,
+        Symbol::Client => 33,
+        Symbol::At => 34,
+        Symbol::Net => 35,
+        Symbol::Fair => 36,
+        Symbol::Seeded => 37,
+        Symbol::Listed => 38,
+        Symbol::Late => 39,
+        Symbol::Hurry => 40,
+        Symbol::List => 41,
+        Symbol::Go => 42,
+        Symbol::Stop => 43,
+        Symbol::Deliver => 44,
+        Symbol::Recover => 45,
+        Symbol::Truncate => 46,
+        Symbol::Wait => 47,
+        Symbol::Next => 48,
+        Symbol::Newest => 49,
+        Symbol::Replica => 50,
+        Symbol::Warden => 51,
+        Symbol::End => 52,
+        Symbol::Other => 53,
     }
 }
 
