@@ -26,7 +26,7 @@ pub use laws::{
 };
 pub use limits::{
     DEEPEST_BLOCK, LONGEST_EXPRESSION, MOST_LOCALS, MOST_OF_A_KIND, MOST_STEPS, MOST_TIMES,
-    operator_level,
+    left_level, level, operator_level,
 };
 pub use program::{Prog, ProgFault, make_prog};
 pub use tree::{BinOp, Block, Expr, Stmt};

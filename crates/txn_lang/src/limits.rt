@@ -47,8 +47,8 @@ pub fn operator_level(op: BinOp) -> u64
     }
 }
 
-// Comparisons do not chain.
-fn left_level(op: BinOp) -> u64
+/// The least level that a left operand has without parentheses. Comparisons do not chain.
+pub fn left_level(op: BinOp) -> u64
     ensures { result ≡ left_level op }
 {
     match operator_level(op) {
@@ -57,7 +57,8 @@ fn left_level(op: BinOp) -> u64
     }
 }
 
-fn level(e: &Expr) -> u64
+/// How tight an expression binds.
+pub fn level(e: &Expr) -> u64
     ensures { result ≡ level (term e.now) }
 {
     match e {

@@ -1,0 +1,2 @@
+pub mod PrinterLemmas
+pub mod CountLemmas

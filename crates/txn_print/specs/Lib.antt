@@ -1,0 +1,4 @@
+pub mod Piece
+pub mod Printer
+pub mod Canonical
+pub mod Laws

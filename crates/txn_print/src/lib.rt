@@ -1,0 +1,19 @@
+//! The canonical text of programs: pieces with one blank between them, save where the rule of blanks says none, and the
+//! needed parentheses and no others.
+//!
+//! The definitions, in the order in which they build on each other: pieces and the rule of blanks (`Piece`), what a
+//! printer holds (`Printer`), the pieces of expressions, statements and programs (`Canonical`), and the laws (`Laws`).
+//!
+//! The proof: a printer that is handed pieces in several calls holds what it holds of all of them in order, and its text
+//! goes on by theirs (`PrinterLemmas`); an expression's pieces are those that its limit counts (`CountLemmas`).
+#![tactic(auto)]
+
+mod expressions;
+mod laws;
+mod printer;
+mod program;
+mod statements;
+
+pub use laws::pieces_are_counted;
+pub use printer::Printer;
+pub use program::{print_block, prog_text};
