@@ -1,5 +1,5 @@
 -- Whether a block stands in front or a list of tokens has a fault is decided by a reader without limits, and by counting.
-use Rattle.std.proofs.Common.{◌≡◌, ◌⊎◌, ℕ, ◌+◌, ◌≤◌, ltb, cond, List, [], ◌∷◌, ◌++◌, length, Ok, Err, refl, sym, ap, ◌∙◌, subst, arith, inl, inr, ⊎_elim}
+use Rattle.std.proofs.Common.{◌≡◌, ◌⊎◌, ℕ, ◌+◌, ltb, cond, List, [], ◌∷◌, ◌++◌, length, Ok, Err, refl, sym, ap, ◌∙◌, subst, arith, inl, inr, ⊎_elim}
 use Rattle.std.proofs.lemmas.List.{append_assoc, append-nil, length-append}
 use Rattle.std.proofs.lemmas.Bool.{cond_both}
 use Rattle.txn_lang.specs.declared.limits.TheConstants.{DEEPEST_BLOCK, LONGEST_EXPRESSION}
@@ -10,34 +10,16 @@ use Rattle.txn_parse.specs.declared.symbols.Symbol.{Symbol}
 use Rattle.txn_parse.specs.declared.symbols.Symbol.TheVariants as symbol
 use Rattle.txn_parse.specs.Symbols.{Lexeme, lexeme}
 use Rattle.txn_parse.specs.Tree.{Commands}
-use Rattle.txn_parse.specs.Grammar.{Limits, Free, Within, IsBlock, braced}
-use Rattle.txn_parse.specs.Reading.{Found, syntax_at, block_at}
+use Rattle.txn_parse.specs.Grammar.{Limits, Free, IsBlock, braced}
+use Rattle.txn_parse.specs.Reading.{Found, syntax_at, block_at, block_from}
 use Rattle.txn_parse.specs.Laws.{Begins, IsFirstBad}
-use Rattle.txn_parse.proofs.LimitsLemmas.{free_block, bound_block}
-use Rattle.txn_parse.proofs.Sound.{Answers}
-use Rattle.txn_parse.proofs.SoundBlocks.{block_answers}
-use Rattle.txn_parse.proofs.CompleteBlocks.{reads_block}
 use Rattle.txn_parse.specs.Counts.{in_expression, Counts, one_counted, and_then, counted}
 use Rattle.txn_parse.specs.Faults.{IsWithinLimits, IsTheFault, bad, past, ended}
 use Rattle.txn_parse.specs.Faults.{BeginsWithBlock, FaultIsDecided, RefusedIsFaulty}
 use Rattle.txn_parse.proofs.CountsLemmas.{parts, limits_are_counts}
-use Rattle.txn_parse.proofs.Laws.{first_bad, derived_is_found}
+use Rattle.txn_parse.proofs.Laws.{derived_is_found}
+use Rattle.txn_parse.proofs.FreeBlocks.{free_found, free_first_bad, reads_free}
 use Rattle.txn_parse.proofs.OneFault.{compared}
-use Rattle.txn_parse.proofs.WideLimits.{block_plain}
-
--- limits of at least n
-record Wide (n : ℕ) : Type 0 where
-  room : ℕ
-  depth : ℕ
-  rooms : n ≤ room
-  depths : n ≤ depth
-
-read_all : (last n : ℕ) (ls : List Lexeme) (b : Commands) → IsBlock Free ls b → length ls ≤ n → block_at last n n ls ≡ Ok (b, [])
-read_all last n ls b d most = ap (block_at last n n) (sym (append-nil ls)) ∙ reads_block last n n ls b [] (bound_block d n n most most)
-
-enough : (last n : ℕ) (ls : List Lexeme) (b : Commands) → IsBlock Free ls b → (j : Wide n) × (block_at last j.room j.depth ls ≡ Ok (b, []))
-enough last n ls b d =
-    (record { room = n + length ls; depth = n + length ls; rooms = omega arith; depths = omega arith }, read_all last (n + length ls) ls b d (omega arith))
 
 -- a block in front, or the first bad token
 record HasBlock (ls : List Lexeme) : Type 0 where
@@ -52,21 +34,16 @@ record HasNone (last : ℕ) (ls : List Lexeme) : Type 0 where
   first : IsFirstBad (IsBlock Free) last ls f
   proper : (b : Commands) → IsBlock Free ls b → ⊥
 
-by_result : (last : ℕ) (ls : List Lexeme) (r : Found Commands) → block_at last (length ls) (length ls) ls ≡ r → Answers last (λ (j : Wide (length ls)). block_at last j.room j.depth) (IsBlock (Within (length ls) (length ls))) (IsBlock Free) ls r → HasBlock ls ⊎ HasNone last ls
-by_result last ls (Ok r) is one = inl (record { front = one.front; rest = r.1; block = r.0; split = one.split; derived = free_block one.derived })
-by_result last ls (Err f) is (inl one) = inr (record {
+by_result : (last : ℕ) (ls : List Lexeme) (r : Found Commands) → block_from last ls ≡ r → HasBlock ls ⊎ HasNone last ls
+by_result last ls (Ok r) is = let one = free_found last ls r.0 r.1 is in inl (record { front = one.front; rest = r.1; block = r.0; split = one.split; derived = one.derived })
+by_result last ls (Err f) is = inr (record {
   f = f;
-  first = first_bad last (λ (j : Wide (length ls)). block_at last j.room j.depth) (IsBlock Free) (enough last (length ls)) ls f one;
-  proper = λ b d. let clash : Err f ≡ Ok (b, []) = sym is ∙ read_all last (length ls) ls b d (omega arith) in cc;
+  first = free_first_bad last ls f is;
+  proper = λ b d. let clash : Err f ≡ Ok (b, []) = sym is ∙ ap (block_from last) (sym (append-nil ls)) ∙ reads_free last ls [] b d in cc;
 })
-by_result last ls (Err f) is (inr one) =
-    let none = (block_plain last (length ls) (length ls) (omega arith) ls (omega arith)).plain f is one.l.token.line in
-    absurd (⊎_elim none.0 none.1 one.place)
 
 free_result : (last : ℕ) (ls : List Lexeme) → HasBlock ls ⊎ HasNone last ls
-free_result last ls =
-    by_result last ls (block_at last (length ls) (length ls) ls) refl
-    (block_answers last (length ls) (λ (j : Wide (length ls)). j.room) (λ j. j.rooms) (length ls) (λ j. j.depth) (λ j. j.depths) ls)
+free_result last ls = by_result last ls (block_from last ls) refl
 
 -- a token past a limit closes no block
 one_past : (o n : ℕ) (l : Lexeme) (s : Symbol) (e : Lexeme × FaultKind) → one_counted o n l s ≡ Err e → (e.0 ≡ l) × ((s ≡ symbol.CloseBlock) → ⊥)

@@ -12,4 +12,5 @@ pub mod Laws
 pub mod CountsLemmas
 pub mod OneFault
 pub mod WideLimits
+pub mod FreeBlocks
 pub mod FaultIsDecided

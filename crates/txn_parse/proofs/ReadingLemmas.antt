@@ -1,6 +1,5 @@
 -- The statements of a block, one after another.
 use Rattle.std.proofs.Common.{◌≡◌, ℕ, zero, suc, ◌+◌, ◌-◌, ◌≤◌, true, false, cond, List, [], ◌∷◌, ◌++◌, length, Result, Ok, Err, refl, sym, ap, ◌∙◌, arith}
-use Rattle.txn_lang.specs.declared.limits.TheConstants.{LONGEST_EXPRESSION}
 use Rattle.txn_text.specs.declared.kinds.Token.{Token}
 use Rattle.txn_text.specs.declared.faults.FaultKind.TheVariants as fault
 use Rattle.txn_text.specs.declared.faults.TextFault.{TextFault}
@@ -68,13 +67,13 @@ brace_ok last room (suc depth) ls x some is =
     ∙ ap (λ d. stmts_at last (stmt_at last room (block_at last room d)) (length x.1 + 1) x.1) (let e : depth ≡ suc depth - 1 = omega arith in e)
 
 -- a statement of a block of this depth
-abbrev pub inner : ℕ → ℕ → Reader Command
-inner last depth = stmt_at last LONGEST_EXPRESSION (block_at last LONGEST_EXPRESSION (depth - 1))
+abbrev pub inner : ℕ → ℕ → ℕ → Reader Command
+inner last room depth = stmt_at last room (block_at last room (depth - 1))
 
 -- what a turn of the loop begins with
-pub loop_state : (last depth : ℕ) (ls behind now : List Lexeme) (t : Token) (front : List Command) (k : ℕ) → (depth ≡ 0 → ⊥) → take_at last symbol.OpenBlock ls ≡ Ok (t, behind) → k ≤ length behind →
-    with_stmts front (stmts_at last (inner last depth) (length behind + 1 - k) now) ≡ stmts_at last (inner last depth) (length behind + 1) behind →
-    block_at last LONGEST_EXPRESSION depth ls ≡ with_stmts front (stmts_at last (inner last depth) (suc (length behind - k)) now)
-loop_state last depth ls behind now t front k some taken fewer so_far =
-    brace_ok last LONGEST_EXPRESSION depth ls (t, behind) some taken ∙ sym so_far
-    ∙ ap (λ n. with_stmts front (stmts_at last (inner last depth) n now)) (let e : length behind + 1 - k ≡ suc (length behind - k) = omega (arith, fewer) in e)
+pub loop_state : (last room depth : ℕ) (ls behind now : List Lexeme) (t : Token) (front : List Command) (k : ℕ) → (depth ≡ 0 → ⊥) → take_at last symbol.OpenBlock ls ≡ Ok (t, behind) → k ≤ length behind →
+    with_stmts front (stmts_at last (inner last room depth) (length behind + 1 - k) now) ≡ stmts_at last (inner last room depth) (length behind + 1) behind →
+    block_at last room depth ls ≡ with_stmts front (stmts_at last (inner last room depth) (suc (length behind - k)) now)
+loop_state last room depth ls behind now t front k some taken fewer so_far =
+    brace_ok last room depth ls (t, behind) some taken ∙ sym so_far
+    ∙ ap (λ n. with_stmts front (stmts_at last (inner last room depth) n now)) (let e : length behind + 1 - k ≡ suc (length behind - k) = omega (arith, fewer) in e)

@@ -3,6 +3,7 @@ use Rattle.std.specs.Prelude.{◌≡◌, ℕ, ◌+◌, ◌-◌, Bool, true, fals
 use Rattle.txn_lang.specs.declared.limits.TheConstants.{DEEPEST_BLOCK, LONGEST_EXPRESSION}
 use Rattle.txn_text.specs.declared.faults.FaultKind.{FaultKind}
 use Rattle.txn_text.specs.declared.faults.FaultKind.TheVariants.{Deep, LongExpression}
+use Rattle.txn_parse.specs.declared.limits.Count.{Count}
 use Rattle.txn_parse.specs.declared.symbols.Symbol.{Symbol}
 use Rattle.txn_parse.specs.declared.symbols.Symbol.TheVariants.{Name, Number, Not, Op, OpenParen, CloseParen, OpenBlock, CloseBlock}
 use Rattle.txn_parse.specs.Symbols.{Lexeme}
@@ -22,6 +23,11 @@ in_expression s = false
 -- the counts behind a token, or the token that is past a limit
 abbrev pub Counts : Type 0
 Counts = Result (ℕ × ℕ) (Lexeme × FaultKind)
+
+-- what a call that counts one token tells of it
+abbrev pub told : Result Count FaultKind → Lexeme → Counts
+told (Ok c) l = Ok (c.depth, c.run)
+told (Err kind) l = Err (l, kind)
 
 abbrev pub one_counted : ℕ → ℕ → Lexeme → Symbol → Counts
 one_counted depth run l OpenBlock = if nat_lt depth DEEPEST_BLOCK then Ok (depth + 1, 0) else Err (l, Deep)

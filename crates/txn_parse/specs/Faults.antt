@@ -1,5 +1,5 @@
 -- The fault of a list of tokens, for any grammar: the first token that is bad or past a limit, or the end of the text.
-use Rattle.std.specs.Prelude.{◌≡◌, ◌⊎◌, ℕ, List, [], ◌∷◌, ◌++◌, Ok, Err}
+use Rattle.std.specs.Prelude.{◌≡◌, ◌⊎◌, ℕ, List, [], ◌∷◌, ◌++◌, length, Ok, Err}
 use Rattle.txn_lang.specs.declared.limits.TheConstants.{DEEPEST_BLOCK, LONGEST_EXPRESSION}
 use Rattle.txn_text.specs.declared.faults.FaultKind.{FaultKind}
 use Rattle.txn_text.specs.declared.faults.FaultKind.TheVariants as fault
@@ -15,6 +15,16 @@ use Rattle.txn_parse.specs.Counts.{counted}
 -- none of these tokens is past a limit
 abbrev pub IsWithinLimits : List Lexeme → Type 0
 IsWithinLimits ls = (c : ℕ × ℕ) × (counted 0 0 ls ≡ Ok c)
+
+-- the first token past a limit stands at this place
+pub record IsFirstPast (ls : List Lexeme) (at : ℕ) (kind : FaultKind) : Type 0 where
+  pub front : List Lexeme
+  pub token : Lexeme
+  pub rest : List Lexeme
+  pub split : ls ≡ front ++ token ∷ rest
+  pub place : length front ≡ at
+  pub within : IsWithinLimits front
+  pub past : counted 0 0 (front ++ token ∷ []) ≡ Err (token, kind)
 
 -- nothing begins with the tokens up to this one
 pub record IsBadToken {A : Type 0} (G : List Lexeme → A → Type 0) (ls : List Lexeme) (f : TextFault) : Type 0 where

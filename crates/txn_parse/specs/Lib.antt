@@ -7,3 +7,4 @@ pub mod Laws
 pub mod Counts
 pub mod Faults
 pub mod Gives
+pub mod Binding

@@ -146,3 +146,7 @@ block_at last room zero ls = do
 block_at last room (suc depth) ls = do
   x ← take_at last symbol.OpenBlock ls
   stmts_at last (stmt_at last room (block_at last room depth)) (length x.1 + 1) x.1
+
+-- a block without limits
+unfoldable pub block_from : ℕ → Reader Commands
+block_from last ls = block_at last (length ls) (length ls) ls

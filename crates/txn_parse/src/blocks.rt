@@ -1,8 +1,7 @@
 ghost use Rattle.std.specs.Prelude.{◌≡◌, ◌≤◌, ◌<◌, length, IfOk};
-ghost use Rattle.txn_lang.specs.declared.limits.TheConstants.{LONGEST_EXPRESSION};
 ghost use Rattle.txn_parse.specs.Tree.{command, commands};
 ghost use Rattle.txn_parse.specs.Symbols.{lexemes};
-ghost use Rattle.txn_parse.specs.Reading.{else_at, if_at, repeat_at, stmt_at, block_at};
+ghost use Rattle.txn_parse.specs.Reading.{else_at, if_at, repeat_at, stmt_at, block_at, block_from};
 ghost use Rattle.txn_parse.specs.Gives.{Gives};
 
 use crate::expressions::expression;
@@ -24,14 +23,15 @@ fn else_block<'a>(
     text: &[u8],
     last: u32,
     toks: &'a [Token],
+    room: u64,
     depth: u64,
 ) -> Result<(RawBlock, &'a [Token]), TextFault>
-    ensures found { Gives (λ x. (commands x.0, lexemes text.now x.1.now)) result (else_at (block_at last LONGEST_EXPRESSION depth) (lexemes text.now toks.now)) }
+    ensures found { Gives (λ x. (commands x.0, lexemes text.now x.1.now)) result (else_at (block_at last room depth) (lexemes text.now toks.now)) }
     ensures no_longer { IfOk result (λ x. length x.1.now ≤ length toks.now) }
 {
     match toks.split_first() {
         Some((token, rest)) if is(symbol_of(text, *token), Symbol::Else) => block(
-            alloc, text, last, rest, depth,
+            alloc, text, last, rest, room, depth,
         ),
         _ => Ok((
             RawBlock {
@@ -50,14 +50,15 @@ fn if_statement<'a>(
     text: &[u8],
     last: u32,
     toks: &'a [Token],
+    room: u64,
     depth: u64,
 ) -> Result<(RawStmt, &'a [Token]), TextFault>
-    ensures found { Gives (λ x. (command x.0, lexemes text.now x.1.now)) result (if_at last LONGEST_EXPRESSION (block_at last LONGEST_EXPRESSION depth) (lexemes text.now toks.now)) }
+    ensures found { Gives (λ x. (command x.0, lexemes text.now x.1.now)) result (if_at last room (block_at last room depth) (lexemes text.now toks.now)) }
     ensures no_longer { IfOk result (λ x. length x.1.now ≤ length toks.now) }
 {
-    let (e, rest) = expression(alloc, text, last, toks)?;
-    let (first, rest) = block(alloc, text, last, rest, depth)?;
-    let (second, rest) = else_block(alloc, text, last, rest, depth)?;
+    let (e, rest) = expression(alloc, text, last, toks, room)?;
+    let (first, rest) = block(alloc, text, last, rest, room, depth)?;
+    let (second, rest) = else_block(alloc, text, last, rest, room, depth)?;
     Ok((RawStmt::If(e, first, second), rest))
 }
 
@@ -69,17 +70,18 @@ fn repeat_statement<'a>(
     text: &[u8],
     last: u32,
     toks: &'a [Token],
+    room: u64,
     depth: u64,
 ) -> Result<(RawStmt, &'a [Token]), TextFault>
-    ensures found { Gives (λ x. (command x.0, lexemes text.now x.1.now)) result (repeat_at last (block_at last LONGEST_EXPRESSION depth) (lexemes text.now toks.now)) }
+    ensures found { Gives (λ x. (command x.0, lexemes text.now x.1.now)) result (repeat_at last (block_at last room depth) (lexemes text.now toks.now)) }
     ensures no_longer { IfOk result (λ x. length x.1.now ≤ length toks.now) }
 {
     let (times, rest) = take(text, last, toks, Symbol::Number)?;
-    let (body, rest) = block(alloc, text, last, rest, depth)?;
+    let (body, rest) = block(alloc, text, last, rest, room, depth)?;
     Ok((RawStmt::Repeat(times, body), rest))
 }
 
-/// A statement, in which so many blocks may stand in one another.
+/// A statement, in which an expression may have so many tokens and so many blocks may stand in one another.
 #[cycle(blocks)]
 #[tactic(auto, unfolding(crate::specs::Reading::stmt_at))]
 fn statement<'a>(
@@ -87,36 +89,38 @@ fn statement<'a>(
     text: &[u8],
     last: u32,
     toks: &'a [Token],
+    room: u64,
     depth: u64,
 ) -> Result<(RawStmt, &'a [Token]), TextFault>
-    ensures found { Gives (λ x. (command x.0, lexemes text.now x.1.now)) result (stmt_at last LONGEST_EXPRESSION (block_at last LONGEST_EXPRESSION depth) (lexemes text.now toks.now)) }
+    ensures found { Gives (λ x. (command x.0, lexemes text.now x.1.now)) result (stmt_at last room (block_at last room depth) (lexemes text.now toks.now)) }
     ensures shorter { IfOk result (λ x. length x.1.now < length toks.now) }
 {
     let Some((token, rest)) = toks.split_first() else {
         return Err(syntax(last, toks));
     };
     match symbol_of(text, *token) {
-        Symbol::Let => let_statement(alloc, text, last, rest),
-        Symbol::Read => read_statement(alloc, text, last, rest),
-        Symbol::Write => write_statement(alloc, text, last, rest),
-        Symbol::Print => print_statement(alloc, text, last, rest),
-        Symbol::If => if_statement(alloc, text, last, rest, depth),
-        Symbol::Repeat => repeat_statement(alloc, text, last, rest, depth),
+        Symbol::Let => let_statement(alloc, text, last, rest, room),
+        Symbol::Read => read_statement(alloc, text, last, rest, room),
+        Symbol::Write => write_statement(alloc, text, last, rest, room),
+        Symbol::Print => print_statement(alloc, text, last, rest, room),
+        Symbol::If => if_statement(alloc, text, last, rest, room, depth),
+        Symbol::Repeat => repeat_statement(alloc, text, last, rest, room, depth),
         Symbol::Abort => Ok((RawStmt::Abort, rest)),
         _ => Err(syntax(last, toks)),
     }
 }
 
-/// A block, where so many blocks may stand in one another.
+/// A block, where an expression may have so many tokens and so many blocks may stand in one another.
 #[cycle(blocks)]
 pub fn block<'a>(
     alloc: Global,
     text: &[u8],
     last: u32,
     toks: &'a [Token],
+    room: u64,
     depth: u64,
 ) -> Result<(RawBlock, &'a [Token]), TextFault>
-    ensures found { Gives (λ x. (commands x.0, lexemes text.now x.1.now)) result (block_at last LONGEST_EXPRESSION depth (lexemes text.now toks.now)) }
+    ensures found { Gives (λ x. (commands x.0, lexemes text.now x.1.now)) result (block_at last room depth (lexemes text.now toks.now)) }
     ensures shorter { IfOk result (λ x. length x.1.now < length toks.now) }
 {
     let (brace, behind) = take(text, last, toks, Symbol::OpenBlock)?;
@@ -129,7 +133,7 @@ pub fn block<'a>(
     let mut rest = behind;
     let mut stmts = List::new(alloc);
     'stmts: loop {
-        let (stmt, behind) = statement(alloc, text, last, rest, depth - 1)?;
+        let (stmt, behind) = statement(alloc, text, last, rest, room, depth - 1)?;
         stmts.push(stmt)?;
         let (more, behind) = separator(text, last, behind)?;
         rest = behind;
@@ -137,4 +141,19 @@ pub fn block<'a>(
             return Ok((RawBlock { stmts }, rest));
         }
     }
+}
+
+/// The block in front, without limits on expressions and blocks, and the tokens behind it. A fault is at the first token
+/// such that no block begins with the tokens up to it, or at the end of the text, whose last line is `last`.
+pub fn read_block<'a>(
+    alloc: Global,
+    text: &[u8],
+    last: u32,
+    toks: &'a [Token],
+) -> Result<(RawBlock, &'a [Token]), TextFault>
+    ensures exact { Gives (λ x. (commands x.0, lexemes text.now x.1.now)) result (block_from last (lexemes text.now toks.now)) }
+    ensures shorter { IfOk result (λ x. length x.1.now < length toks.now) }
+{
+    let most = toks.len() as u64;
+    block(alloc, text, last, toks, most, most)
 }

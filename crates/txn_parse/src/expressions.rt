@@ -10,7 +10,6 @@ use crate::symbols::symbol_of;
 use crate::tokens::syntax;
 use crate::tree::RawExpr;
 use std::alloc::Global;
-use txn_lang::LONGEST_EXPRESSION;
 use txn_text::{FaultKind, TextFault, Token};
 
 /// Goes on with an expression, of which so many tokens may follow.
@@ -45,16 +44,17 @@ fn go_on<'a>(
     }
 }
 
-/// An outermost expression, and the tokens behind it.
+/// An outermost expression of at most so many tokens, and the tokens behind it.
 pub fn expression<'a>(
     alloc: Global,
     text: &[u8],
     last: u32,
     toks: &'a [Token],
+    room: u64,
 ) -> Result<(RawExpr, &'a [Token]), TextFault>
-    ensures found { Gives (λ x. (term x.0, lexemes text.now x.1.now)) result (expr_at last LONGEST_EXPRESSION (lexemes text.now toks.now)) }
+    ensures found { Gives (λ x. (term x.0, lexemes text.now x.1.now)) result (expr_at last room (lexemes text.now toks.now)) }
     ensures no_longer { IfOk result (λ x. length x.1.now ≤ length toks.now) }
 {
     let none_yet = Reading::Awaits(Open::Nothing);
-    go_on(alloc, text, last, none_yet, toks, LONGEST_EXPRESSION)
+    go_on(alloc, text, last, none_yet, toks, room)
 }

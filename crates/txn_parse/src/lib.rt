@@ -2,20 +2,21 @@
 //!
 //! The definitions, in the order in which they build on each other: the symbol of a token (`Symbols`), trees with tokens
 //! (`Tree`), an expression while it is read (`Pending`), the grammar (`Grammar`), reading from left to right (`Reading`),
-//! what is true of it (`Laws`), what a call gives (`Gives`), limits as counts of tokens (`Counts`), and the one fault of
-//! a list of tokens, for any grammar (`Faults`).
+//! what is true of it (`Laws`), what a call gives (`Gives`), limits as counts of tokens (`Counts`), the one fault of a list
+//! of tokens, for any grammar (`Faults`), and the names of a block with the checks that it passes (`Binding`).
 //!
 //! The proof: what is open in an expression stands for the tokens that were read (`PendingLemmas`); a block's statements
 //! are read one after another (`ReadingLemmas`); what is within limits is in the grammar without them (`LimitsLemmas`).
 //! So what a reader finds is in the grammar, and its fault is at the first bad token (`Sound`, then `SoundExpr`,
 //! `SoundStmts`, `Separators` and `SoundBlocks`); and what is in the grammar is found (`CompleteExpr`,
 //! `CompleteBlocks`). Both give the laws of whole blocks (`Laws`). A block is within the limits just where its counts
-//! are (`CountsLemmas`), a list has one fault at most (`OneFault`), and a reader whose limits are wide (`WideLimits`)
-//! decides whether it has one (`FaultIsDecided`).
+//! are (`CountsLemmas`), a list has one fault at most (`OneFault`), and a reader without limits (`FreeBlocks`), whose
+//! limits are as wide as the list (`WideLimits`), decides whether it has one (`FaultIsDecided`).
 #![tactic(auto)]
 
 mod blocks;
 mod expressions;
+mod limits;
 mod pending;
 mod program;
 mod statements;
@@ -23,6 +24,9 @@ mod symbols;
 mod tokens;
 mod tree;
 
-pub use program::{fault_laws, grammar_laws, parse_prog};
-pub use symbols::{Symbol, symbol_of};
+pub use blocks::read_block;
+pub use limits::first_past;
+pub use program::{fault_laws, grammar_laws, last_line, parse_prog};
+pub use symbols::{Symbol, is, symbol_of};
+pub use tokens::{syntax, take};
 pub use tree::{RawBlock, RawExpr, RawProg, RawStmt};

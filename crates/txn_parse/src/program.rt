@@ -11,10 +11,11 @@ ghost use Rattle.txn_parse.specs.Faults.{OneFault, FaultIsDecided, RefusedIsFaul
 use crate::blocks::block;
 use crate::tree::RawProg;
 use std::alloc::Global;
-use txn_lang::DEEPEST_BLOCK;
+use txn_lang::{DEEPEST_BLOCK, LONGEST_EXPRESSION};
 use txn_text::{TextFault, Token};
 
-fn last_line(text: &[u8]) -> u32
+/// The line in which a text ends, counted from 1.
+pub fn last_line(text: &[u8]) -> u32
     requires { length text.now < u32.MAX }
     ensures { result ≡ last_line text.now }
 {
@@ -43,7 +44,7 @@ pub fn parse_prog(
 {
     let last = last_line(text);
     let rest = &toks[from..];
-    let (body, behind) = block(alloc, text, last, rest, DEEPEST_BLOCK)?;
+    let (body, behind) = block(alloc, text, last, rest, LONGEST_EXPRESSION, DEEPEST_BLOCK)?;
     Ok((
         RawProg {
             brace: toks[from],

@@ -1,5 +1,4 @@
 ghost use Rattle.std.specs.Prelude.{◌≡◌, ◌≤◌, ◌<◌, length, IfOk};
-ghost use Rattle.txn_lang.specs.declared.limits.TheConstants.{LONGEST_EXPRESSION};
 ghost use Rattle.txn_parse.specs.Tree.{command};
 ghost use Rattle.txn_parse.specs.Symbols.{lexemes};
 ghost use Rattle.txn_parse.specs.Reading.{let_at, read_at, write_at, print_at, more_at, separator_at};
@@ -19,13 +18,14 @@ pub fn let_statement<'a>(
     text: &[u8],
     last: u32,
     toks: &'a [Token],
+    room: u64,
 ) -> Result<(RawStmt, &'a [Token]), TextFault>
-    ensures found { Gives (λ x. (command x.0, lexemes text.now x.1.now)) result (let_at last LONGEST_EXPRESSION (lexemes text.now toks.now)) }
+    ensures found { Gives (λ x. (command x.0, lexemes text.now x.1.now)) result (let_at last room (lexemes text.now toks.now)) }
     ensures no_longer { IfOk result (λ x. length x.1.now ≤ length toks.now) }
 {
     let (local, rest) = take(text, last, toks, Symbol::Name)?;
     let (_, rest) = take(text, last, rest, Symbol::Assign)?;
-    let (e, rest) = expression(alloc, text, last, rest)?;
+    let (e, rest) = expression(alloc, text, last, rest, room)?;
     Ok((RawStmt::Let(local, e), rest))
 }
 
@@ -36,14 +36,15 @@ pub fn read_statement<'a>(
     text: &[u8],
     last: u32,
     toks: &'a [Token],
+    room: u64,
 ) -> Result<(RawStmt, &'a [Token]), TextFault>
-    ensures found { Gives (λ x. (command x.0, lexemes text.now x.1.now)) result (read_at last LONGEST_EXPRESSION (lexemes text.now toks.now)) }
+    ensures found { Gives (λ x. (command x.0, lexemes text.now x.1.now)) result (read_at last room (lexemes text.now toks.now)) }
     ensures no_longer { IfOk result (λ x. length x.1.now ≤ length toks.now) }
 {
     let (local, rest) = take(text, last, toks, Symbol::Name)?;
     let (table, rest) = take(text, last, rest, Symbol::Name)?;
     let (_, rest) = take(text, last, rest, Symbol::OpenIndex)?;
-    let (index, rest) = expression(alloc, text, last, rest)?;
+    let (index, rest) = expression(alloc, text, last, rest, room)?;
     let (_, rest) = take(text, last, rest, Symbol::CloseIndex)?;
     Ok((RawStmt::Read(local, table, index), rest))
 }
@@ -55,15 +56,16 @@ pub fn write_statement<'a>(
     text: &[u8],
     last: u32,
     toks: &'a [Token],
+    room: u64,
 ) -> Result<(RawStmt, &'a [Token]), TextFault>
-    ensures found { Gives (λ x. (command x.0, lexemes text.now x.1.now)) result (write_at last LONGEST_EXPRESSION (lexemes text.now toks.now)) }
+    ensures found { Gives (λ x. (command x.0, lexemes text.now x.1.now)) result (write_at last room (lexemes text.now toks.now)) }
     ensures no_longer { IfOk result (λ x. length x.1.now ≤ length toks.now) }
 {
     let (table, rest) = take(text, last, toks, Symbol::Name)?;
     let (_, rest) = take(text, last, rest, Symbol::OpenIndex)?;
-    let (index, rest) = expression(alloc, text, last, rest)?;
+    let (index, rest) = expression(alloc, text, last, rest, room)?;
     let (_, rest) = take(text, last, rest, Symbol::CloseIndex)?;
-    let (e, rest) = expression(alloc, text, last, rest)?;
+    let (e, rest) = expression(alloc, text, last, rest, room)?;
     Ok((RawStmt::Write(table, index, e), rest))
 }
 
@@ -74,11 +76,12 @@ pub fn print_statement<'a>(
     text: &[u8],
     last: u32,
     toks: &'a [Token],
+    room: u64,
 ) -> Result<(RawStmt, &'a [Token]), TextFault>
-    ensures found { Gives (λ x. (command x.0, lexemes text.now x.1.now)) result (print_at last LONGEST_EXPRESSION (lexemes text.now toks.now)) }
+    ensures found { Gives (λ x. (command x.0, lexemes text.now x.1.now)) result (print_at last room (lexemes text.now toks.now)) }
     ensures no_longer { IfOk result (λ x. length x.1.now ≤ length toks.now) }
 {
-    let (e, rest) = expression(alloc, text, last, toks)?;
+    let (e, rest) = expression(alloc, text, last, toks, room)?;
     Ok((RawStmt::Print(e), rest))
 }
 

@@ -1,7 +1,6 @@
 use Rattle.std.proofs.Common.{◌≡◌, ◌∙◌, ◌≤◌, ◌+◌, ◌-◌, ℕ, suc, Bool, sym, ap, arith, length, map, Ok, List, [], ◌∷◌, ◌++◌, false, true, Bor}
 use Rattle.std.proofs.lemmas.List.{length-map, map_push, length_push}
 use Rattle.std.proofs.lemmas.Result.{err_from_is_err_and}
-use Rattle.txn_lang.specs.declared.limits.TheConstants.{LONGEST_EXPRESSION}
 use Rattle.txn_text.specs.declared.kinds.Token.{Token}
 use Rattle.txn_parse.specs.declared.tree.RawStmt.{RawStmt}
 use Rattle.txn_parse.specs.declared.tree.RawBlock.{RawBlock}
@@ -31,27 +30,27 @@ pub block-returns-in_err-brace-clause-found : goal.block-returns-in_err-brace-cl
 block-returns-in_err-brace-clause-found t c =
     let text = c.args.text.now in
     let p = err_from_is_err_and c.from_residual.result c.from_residual.ensures.1 in
-    rw (p.1, p.2) (gives_err (token_view text) (block_view text) _ _ _ (λ f is. brace_err c.args.last LONGEST_EXPRESSION c.args.depth (lexemes text c.args.toks.now) f is) c.in_err-brace.ensures.found)
+    rw (p.1, p.2) (gives_err (token_view text) (block_view text) _ _ _ (λ f is. brace_err c.args.last c.args.room c.args.depth (lexemes text c.args.toks.now) f is) c.in_err-brace.ensures.found)
 
 pub block-returns-then-depth-eq0-clause-found : goal.block-returns-then-depth-eq0-clause-found
 block-returns-then-depth-eq0-clause-found t c =
-    brace_deep c.args.last LONGEST_EXPRESSION c.args.depth (lexemes c.args.text.now c.args.toks.now) _ c.if-depth-eq0.true c.in_ok-brace.ensures.found
+    brace_deep c.args.last c.args.room c.args.depth (lexemes c.args.text.now c.args.toks.now) _ c.if-depth-eq0.true c.in_ok-brace.ensures.found
 
 pub block-returns-in_err-stmt-clause-found : goal.block-returns-in_err-stmt-clause-found
 block-returns-in_err-stmt-clause-found t c =
     let text = c.args.text.now in
     let fewer = counted text c.stmts.rest.now c.in_ok-brace.behind.now (length c.stmts.stmts) c.stmts.invariant.fewer in
-    let state = loop_state c.args.last c.args.depth (lexemes text c.args.toks.now) (lexemes text c.in_ok-brace.behind.now) (lexemes text c.stmts.rest.now) c.in_ok-brace.brace (map command c.stmts.stmts) (length c.stmts.stmts) c.if-depth-eq0.false c.in_ok-brace.ensures.found fewer c.stmts.invariant.so_far in
+    let state = loop_state c.args.last c.args.room c.args.depth (lexemes text c.args.toks.now) (lexemes text c.in_ok-brace.behind.now) (lexemes text c.stmts.rest.now) c.in_ok-brace.brace (map command c.stmts.stmts) (length c.stmts.stmts) c.if-depth-eq0.false c.in_ok-brace.ensures.found fewer c.stmts.invariant.so_far in
     let p = err_from_is_err_and c.from_residual-in_err-stmt.result c.from_residual-in_err-stmt.ensures.1 in
-    rw (p.1, p.2) (gives_err (stmt_view text) (block_view text) _ _ _ (λ f is. state ∙ ap (with_stmts (map command c.stmts.stmts)) (stmts_err c.args.last (inner c.args.last c.args.depth) _ (lexemes text c.stmts.rest.now) f is)) c.in_err-stmt.ensures.found)
+    rw (p.1, p.2) (gives_err (stmt_view text) (block_view text) _ _ _ (λ f is. state ∙ ap (with_stmts (map command c.stmts.stmts)) (stmts_err c.args.last (inner c.args.last c.args.room c.args.depth) _ (lexemes text c.stmts.rest.now) f is)) c.in_err-stmt.ensures.found)
 
 pub block-returns-in_err-more-clause-found : goal.block-returns-in_err-more-clause-found
 block-returns-in_err-more-clause-found t c =
     let text = c.args.text.now in
     let fewer = counted text c.stmts.rest.now c.in_ok-brace.behind.now (length c.stmts.stmts) c.stmts.invariant.fewer in
-    let state = loop_state c.args.last c.args.depth (lexemes text c.args.toks.now) (lexemes text c.in_ok-brace.behind.now) (lexemes text c.stmts.rest.now) c.in_ok-brace.brace (map command c.stmts.stmts) (length c.stmts.stmts) c.if-depth-eq0.false c.in_ok-brace.ensures.found fewer c.stmts.invariant.so_far in
+    let state = loop_state c.args.last c.args.room c.args.depth (lexemes text c.args.toks.now) (lexemes text c.in_ok-brace.behind.now) (lexemes text c.stmts.rest.now) c.in_ok-brace.brace (map command c.stmts.stmts) (length c.stmts.stmts) c.if-depth-eq0.false c.in_ok-brace.ensures.found fewer c.stmts.invariant.so_far in
     let p = err_from_is_err_and c.from_residual-in_err-more.result c.from_residual-in_err-more.ensures.1 in
-    rw (p.1, p.2) (gives_err (bool_view text) (block_view text) _ _ _ (λ f is. state ∙ ap (with_stmts (map command c.stmts.stmts)) (stmts_separator_err c.args.last (inner c.args.last c.args.depth) _ (lexemes text c.stmts.rest.now) _ f c.in_ok-stmt.ensures.found is)) c.in_err-more.ensures.found)
+    rw (p.1, p.2) (gives_err (bool_view text) (block_view text) _ _ _ (λ f is. state ∙ ap (with_stmts (map command c.stmts.stmts)) (stmts_separator_err c.args.last (inner c.args.last c.args.room c.args.depth) _ (lexemes text c.stmts.rest.now) _ f c.in_ok-stmt.ensures.found is)) c.in_err-more.ensures.found)
 
 -- one more statement at the end
 commands_push : (stmts new : List RawStmt) (s : RawStmt) → new ≡ stmts ++ s ∷ [] → before (map command stmts) (Then (command s) End) ≡ commands_of new
@@ -63,9 +62,9 @@ block-returns-then-not-more-clause-found t c =
     let text = c.args.text.now in
     let front = map command c.stmts.stmts in
     let fewer = counted text c.stmts.rest.now c.in_ok-brace.behind.now (length c.stmts.stmts) c.stmts.invariant.fewer in
-    let state = loop_state c.args.last c.args.depth (lexemes text c.args.toks.now) (lexemes text c.in_ok-brace.behind.now) (lexemes text c.stmts.rest.now) c.in_ok-brace.brace front (length c.stmts.stmts) c.if-depth-eq0.false c.in_ok-brace.ensures.found fewer c.stmts.invariant.so_far in
+    let state = loop_state c.args.last c.args.room c.args.depth (lexemes text c.args.toks.now) (lexemes text c.in_ok-brace.behind.now) (lexemes text c.stmts.rest.now) c.in_ok-brace.brace front (length c.stmts.stmts) c.if-depth-eq0.false c.in_ok-brace.ensures.found fewer c.stmts.invariant.so_far in
     let ends : separator_at c.args.last (lexemes text c.in_ok-stmt.behind.now) ≡ Ok (false, lexemes text c.in_ok-more.behind.now) = c.in_ok-more.ensures.found ∙ ap (λ (b : Bool). let r : Found Bool = Ok (b, lexemes text c.in_ok-more.behind.now) in r) c.if-not-more.true in
-    state ∙ ap (with_stmts front) (stmts_last c.args.last (inner c.args.last c.args.depth) _ (lexemes text c.stmts.rest.now) _ _ c.in_ok-stmt.ensures.found ends)
+    state ∙ ap (with_stmts front) (stmts_last c.args.last (inner c.args.last c.args.room c.args.depth) _ (lexemes text c.stmts.rest.now) _ _ c.in_ok-stmt.ensures.found ends)
     ∙ ap (λ (b : Commands). let r : Found Commands = Ok (b, lexemes text c.in_ok-more.behind.now) in r) (commands_push c.stmts.stmts c.push.new.self c.in_ok-stmt.stmt c.in_ok-push.ensures.ok)
 
 pub block-stmts-preserved : goal.block-stmts-preserved
@@ -78,7 +77,7 @@ block-stmts-preserved t c =
     let longer : length new ≡ k + 1 = ap length is ∙ length_push c.stmts.stmts c.in_ok-stmt.stmt in
     let all = lexemes text c.in_ok-brace.behind.now in
     let fewer = counted text c.stmts.rest.now c.in_ok-brace.behind.now k c.stmts.invariant.fewer in
-    let S = inner c.args.last c.args.depth in
+    let S = inner c.args.last c.args.room c.args.depth in
     let now = lexemes text c.stmts.rest.now in
     let later = lexemes text c.in_ok-more.behind.now in
     let goes : separator_at c.args.last (lexemes text c.in_ok-stmt.behind.now) ≡ Ok (true, later) = c.in_ok-more.ensures.found ∙ ap (λ (b : Bool). let r : Found Bool = Ok (b, later) in r) c.if-not-more.false in

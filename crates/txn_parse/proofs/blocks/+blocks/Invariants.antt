@@ -1,5 +1,4 @@
 use Rattle.std.proofs.Common.{◌≡◌, ◌≤◌, length, map, ◌+◌, ◌-◌, ◌*◌}
-use Rattle.txn_lang.specs.declared.limits.TheConstants.{LONGEST_EXPRESSION}
 use Rattle.txn_parse.specs.Tree.{command}
 use Rattle.txn_parse.specs.Symbols.{lexemes}
 use Rattle.txn_parse.specs.Reading.{stmts_at, stmt_at, block_at}
@@ -9,7 +8,7 @@ use Rattle.txn_parse.proofs.blocks.+blocks.Given as goal
 abbrev pub invariant-block-stmts : goal.invariant-block-stmts
 invariant-block-stmts l = record {
   fewer : length l.rest + length l.stmts ≤ length l.initial.rest;
-  so_far : with_stmts (map command l.stmts) (stmts_at l.last (stmt_at l.last LONGEST_EXPRESSION (block_at l.last LONGEST_EXPRESSION (l.depth - 1))) (length (lexemes l.text l.initial.rest) + 1 - length l.stmts) (lexemes l.text l.rest)) ≡ stmts_at l.last (stmt_at l.last LONGEST_EXPRESSION (block_at l.last LONGEST_EXPRESSION (l.depth - 1))) (length (lexemes l.text l.initial.rest) + 1) (lexemes l.text l.initial.rest);
+  so_far : with_stmts (map command l.stmts) (stmts_at l.last (stmt_at l.last l.room (block_at l.last l.room (l.depth - 1))) (length (lexemes l.text l.initial.rest) + 1 - length l.stmts) (lexemes l.text l.rest)) ≡ stmts_at l.last (stmt_at l.last l.room (block_at l.last l.room (l.depth - 1))) (length (lexemes l.text l.initial.rest) + 1) (lexemes l.text l.initial.rest);
 }
 
 abbrev pub decreases-block-stmts : goal.decreases-block-stmts

@@ -1,5 +1,5 @@
 -- The table of the reserved words is that of the program.
-use Rattle.std.proofs.Common.{◌≡◌, ap, sym, ◌∙◌}
+use Rattle.std.proofs.Common.{ap, sym, ◌∙◌}
 use Rattle.txn_text.specs.Tokens.{token_bytes}
 use Rattle.txn_parse.specs.Symbols.{words, symbol_in, symbol_by}
 use Rattle.txn_parse.proofs.symbols.symbol_of.Goals as goal
