@@ -2,6 +2,7 @@ ghost use Rattle.std.specs.Prelude.{◌≡◌, ◌↔◌, IsTrue};
 ghost use Rattle.txn_text.specs.Bytes.{number_value_of};
 ghost use Rattle.txn_text.specs.Tokens.{token_bytes};
 ghost use Rattle.txn_text.specs.Kinds.{TokensLieInOrder};
+ghost use Rattle.txn_text.specs.Layout.{LaidOutIsRead};
 
 use crate::Token;
 use crate::bytes::number;
@@ -33,4 +34,10 @@ pub fn number_value(text: &[u8], token: Token) -> u64
 /// bytes are of its kind.
 pub fn token_laws()
     ensures { TokensLieInOrder }
+{}
+
+/// Tokens that lie in a text between blanks and comments, where no piece runs on into the byte behind it, are the
+/// tokens that are read of it.
+pub fn layout_law()
+    ensures { LaidOutIsRead }
 {}
