@@ -27,6 +27,7 @@ mod tree;
 pub use blocks::read_block;
 pub use limits::first_past;
 pub use program::{fault_laws, grammar_laws, last_line, parse_prog};
+pub use statements::separator;
 pub use symbols::{Symbol, is, symbol_of};
 pub use tokens::{syntax, take};
 pub use tree::{RawBlock, RawExpr, RawProg, RawStmt};

@@ -1,0 +1,9 @@
+pub mod Rules
+pub mod Fits
+pub mod Items
+pub mod Grammar
+pub mod Meaning
+pub mod Checks
+pub mod Stages
+pub mod Texts
+pub mod Groups
