@@ -5,7 +5,7 @@ use Rattle.std.specs.List.{list_any, flat_map}
 use Rattle.std.proofs.lemmas.List.{take_more, flat_map_more, map-append}
 use Rattle.std.specs.Bool.{then_some}
 use Rattle.morty_base.proofs.Orders.{same_key_tells, key_before_total}
-use Rattle.protocol.specs.Words.{Key, Client, Wid, before, key_before, same_key, same_wid, Envelope, Note}
+use Rattle.protocol.specs.Words.{Version, Key, Client, Wid, before, key_before, same_key, same_wid, Envelope, Note}
 use Rattle.protocol.specs.declared.First2.{First2}
 use Rattle.protocol.specs.declared.Held.{Held}
 use Rattle.protocol.specs.Lists.{IsIn, one_when}
@@ -15,11 +15,11 @@ use Rattle.protocol.specs.Replica.Readers.{Reader as ReaderOf, readers, same_hel
 use Rattle.protocol.proofs.ListsLemmas.{map_in}
 use Rattle.mv_index.specs.declared.reader_list.Reader.{Reader}
 use Rattle.mv_index.specs.ReaderList.{reader_of, IsInOrder}
-use Rattle.mv_index.proofs.Keyed.{key_up_to}
+use Rattle.mv_index.proofs.Keyed.{key_up_to, reads_from}
 use Rattle.mv_index.proofs.Same.{due_now, no_note}
 use Rattle.mv_index.proofs.Values.{filter_in}
 use Rattle.mv_index.specs.KeyList.{AreRising}
-use Rattle.mv_record.specs.Records.{StandsFor, WereTold, listed}
+use Rattle.mv_record.specs.Records.{StandsFor, WereTold, listed, low_of}
 use Rattle.mv_record.specs.declared.records.Records.{Records}
 use Rattle.mv_record.proofs.Rising.{in_order}
 use Rattle.mv_record.proofs.Told.{at_in}
@@ -78,8 +78,31 @@ reads_above firsts h r p s i = (filter_in (λ (q : ReaderOf). before (dropped h)
     (subst (λ l. IsIn (reader_of p) l) s.readers_are (map_in reader_of r.readers.readers.items p i))).1
 
 -- one of the readers of a key is a reader
-pub own_in : (k : Key) (rs xs : List Reader) (i : ℕ) (d : Reader) → xs ≡ filter (λ (p : Reader). same_key k p.key) rs → i < length xs → IsIn (get_or xs i d) rs
-own_in k rs xs i d e h = (filter_in (λ (p : Reader). same_key k p.key) rs (get_or xs i d) (subst (λ l. IsIn (get_or xs i d) l) e (at_in xs i d h))).0
+pub own_in : (p : Reader → Bool) (rs xs : List Reader) (i : ℕ) (d : Reader) → xs ≡ filter p rs → i < length xs → IsIn (get_or xs i d) rs
+own_in p rs xs i d e h = (filter_in p rs (get_or xs i d) (subst (λ l. IsIn (get_or xs i d) l) e (at_in xs i d h))).0
+
+-- who has no Note may be left out
+left_out : {B : Type 0} (f : Reader → List B) (k : Key) (v : Version) (rs : List Reader) → ((p : Reader) → IsIn p rs → before p.ver v ≡ true → f p ≡ []) →
+    flat_map f (filter (reads_from k v) rs) ≡ flat_map f (filter (λ (p : Reader). same_key k p.key) rs)
+left_out f k v [] none = refl
+left_out {B} f k v (r ∷ rs) none = go (same_key k r.key) (before r.ver v) refl (left_out f k v rs (λ p i. none p (inr i)))
+  where
+    go : (a b : Bool) → before r.ver v ≡ b → flat_map f (filter (reads_from k v) rs) ≡ flat_map f (filter (λ (p : Reader). same_key k p.key) rs) →
+        flat_map f (cond (a && not b) (r ∷ filter (reads_from k v) rs) (filter (reads_from k v) rs))
+        ≡ flat_map f (cond a (r ∷ filter (λ (p : Reader). same_key k p.key) rs) (filter (λ (p : Reader). same_key k p.key) rs))
+    go true true e more = more ∙ sym (ap (λ l. l ++ flat_map f (filter (λ (p : Reader). same_key k p.key) rs)) (none r (inl refl) e))
+    go true false e more = ap (λ l. f r ++ l) more
+    go false b e more = more
+
+some_is : (a b : Held) → Some a ≡ Some b → a ≡ b
+some_is a b e = cc
+
+-- readers below what changed are due no Note
+pub own_notes : (firsts : List First2) (h h' : Handled) (number : ℕ) (r : Records) (k : Key) → StandsFor firsts h' r → WereTold firsts h r →
+    flat_map (notes_by firsts h h' number) (filter (reads_from k (low_of r)) r.readers.readers.items)
+    ≡ flat_map (notes_by firsts h h' number) (filter (λ (p : Reader). same_key k p.key) r.readers.readers.items)
+own_notes firsts h h' number r k s t = left_out (notes_by firsts h h' number) k (low_of r) r.readers.readers.items (λ p i e.
+    no_note firsts h h' number (reader_of p) (some_is (latest firsts h' p.key p.ver) (latest firsts h p.key p.ver) (sym (s.below p i e) ∙ t.each p i)))
 
 -- ---- key by key
 
@@ -194,9 +217,6 @@ due_listed firsts h m number r s t =
     rising true = s.keys_rise
     rising false = s.touched_rise
 
-    some : (a b : Held) → Some a ≡ Some b → a ≡ b
-    some a b e = cc
-
     quiet : (p : Reader) → IsIn p r.readers.readers.items → list_any (same_key p.key) (listed r) ≡ false → notes_by firsts h (m ∷ h) number p ≡ []
-    quiet p i e = no_note firsts h (m ∷ h) number (reader_of p) (some (latest firsts (m ∷ h) p.key p.ver) (latest firsts h p.key p.ver) (sym (s.quiet p i e)
+    quiet p i e = no_note firsts h (m ∷ h) number (reader_of p) (some_is (latest firsts (m ∷ h) p.key p.ver) (latest firsts h p.key p.ver) (sym (s.quiet p i e)
         ∙ t.each p i))

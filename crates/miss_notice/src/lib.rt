@@ -93,11 +93,11 @@ fn push_some(out: &mut List<Envelope2>, note: Option<Envelope2>) -> Result<(), N
     }
 }
 
-/// The Notes of the readers of one key.
+/// The Notes of the readers of one key. Readers below what changed are due none.
 fn notes_of(rec: &Records, key: Key, out: &mut List<Envelope2>) -> Result<(), NoMemory>
     ensures { (firsts : List FirstValue) (h h' : Handled) (number : ℕ) → StandsFor firsts h' rec.now → WereTold firsts h rec.now → OnOk result (map (sent_by number) out.new ≡ map (sent_by number) out.old ++ notes_at (notes_by firsts h h' number) rec.now.readers.readers.items key) }
 {
-    for reader in rec.readers_of(key) {
+    for reader in rec.due_readers(key) {
         push_some(out, note(rec, *reader))?;
     }
     Ok(())

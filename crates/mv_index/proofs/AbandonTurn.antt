@@ -10,7 +10,7 @@ use Rattle.protocol.specs.Replica.Taken.{Handled, dropped}
 use Rattle.protocol.specs.Replica.Acceptor.{decided}
 use Rattle.protocol.specs.Replica.Held.{Put, last_write, kept_put, abandons}
 use Rattle.mv_index.proofs.Growth.{later_none}
-use Rattle.mv_index.specs.WriteIndex.{writes_key}
+use Rattle.protocol.specs.Replica.Votes.{writes_key}
 use Rattle.mv_index.specs.HeldByExec.{committed_content, has_commit, is_blocked, last_of_content, last_of_put, sure_by, open_by}
 use Rattle.mv_index.proofs.PutsTurn.{open_none, open_other, cleared}
 use Rattle.mv_index.proofs.CommitTurn.{none_of}

@@ -1,16 +1,11 @@
 -- The best of a list, where the list is a function of executions.
-use Rattle.std.proofs.Common.{ℕ, ◌+◌, ◌<◌, ◌≤◌, length, take, get_or, ◌≡◌, ◌⊎◌, inl, inr, Bool, true, false, cond, List, [], ◌∷◌, ◌++◌, refl, ap, sym, subst, ◌∙◌, Option, Some, None, arith, ◌&&◌}
-use Rattle.std.specs.List.{filter_map}
-use Rattle.std.specs.Option.{option_to_list}
+use Rattle.std.proofs.Common.{◌≡◌, ◌⊎◌, inl, inr, Bool, true, false, cond, List, [], ◌∷◌, ◌++◌, refl, ap, sym, subst, ◌∙◌, Option, Some, None, arith, ◌&&◌}
 use Rattle.std.proofs.lemmas.Bool.Decides.{nat_tests}
-use Rattle.std.proofs.lemmas.List.{take_all}
 use Rattle.morty_base.proofs.Orders.{wid_before_total, exec_before_total}
-use Rattle.protocol.specs.Words.{Version, Exec, Wid, Key, BaseEntry, before, same_version, same_key, exec_before, wid_before}
+use Rattle.protocol.specs.Words.{Version, Exec, Wid, before, same_version, exec_before, wid_before}
 use Rattle.protocol.specs.declared.Held.{Held}
 use Rattle.protocol.specs.Lists.{IsIn}
 use Rattle.protocol.specs.Replica.Held.{best_below}
-use Rattle.mv_index.specs.HeldByExec.{entry_held_of, entries_of}
-use Rattle.mv_index.proofs.Growth.{filter_map_more, filter_map_when}
 use Rattle.mv_index.specs.WriteIndex.{IsLastBelow, better, best_with}
 
 pub best_below_append : (v : Version) (b : Held) (xs ys : List Held) → best_below v b (xs ++ ys) ≡ best_below v (best_below v b xs) ys
@@ -130,25 +125,6 @@ best_of_values v b f xs (Some m) k (x, below, is, most) = go (wid_before b.wid m
             let s = same (best_below v b xs) q.0 q.1 (i.most m mine.0 below_m) in
             let later : wid_before b.wid m.wid ≡ true = subst (λ (y : Held). wid_before b.wid y.wid ≡ true) s q.2 in
             s ∙ sym (ap (λ t. cond (t && wid_before b.wid m.wid) m b) below_m ∙ ap (λ t. cond t m b) later)
-
--- one more element of a list that is gone through
-pub best_with_next : {A : Type 0} (v : Version) (b : Held) (f : A → Option Held) (xs : List A) (i : ℕ) (d : A) (cur new : Held) (o : Option Held) →
-    i < length xs → cur ≡ best_below v b (filter_map f (take i xs)) → o ≡ f (get_or xs i d) → new ≡ best_with v cur o →
-    new ≡ best_below v b (filter_map f (take (i + 1) xs))
-best_with_next v b f xs i d cur new o h e g n =
-    n ∙ (ap (λ c. best_with v c o) e ∙ (last o ∙ (sym (best_below_append v b (filter_map f (take i xs)) (option_to_list o))
-    ∙ (ap (λ p. best_below v b (filter_map f (take i xs) ++ option_to_list p)) g ∙ ap (best_below v b) (sym (filter_map_more f xs i d h))))))
-  where
-    last : (o : Option Held) → best_with v (best_below v b (filter_map f (take i xs))) o
-        ≡ best_below v (best_below v b (filter_map f (take i xs))) (option_to_list o)
-    last None = refl
-    last (Some a) = refl
-
-pub best_entries : (v : Version) (b : Held) (k : Key) (bs : List BaseEntry) (i : ℕ) (cur : Held) → length bs ≤ i →
-    cur ≡ best_below v b (filter_map (entry_held_of k) (take i bs)) → cur ≡ best_below v b (entries_of k bs)
-best_entries v b k bs i cur h e =
-    e ∙ (ap (λ l. best_below v b (filter_map (entry_held_of k) l)) (take_all i bs h)
-    ∙ ap (best_below v b) (filter_map_when (λ (e : BaseEntry). same_key k e.key) (λ (e : BaseEntry). record { wid = e.wid; value = e.value; sure = true }) bs))
 
 -- the last of one function is that of another that is the same
 pub last_same : (v : Version) (f g : Exec → Option Held) (o : Option Held) → ((x : Exec) → f x ≡ g x) → IsLastBelow v f o → IsLastBelow v g o

@@ -2,16 +2,15 @@
 use Rattle.std.proofs.Common.{◌≡◌, ◌≢◌, ◌⊎◌, inl, inr, Bool, true, false, cond, ◌∷◌, ◌++◌, refl, ap, sym, subst, ◌∙◌, Option, Some, None, ◌&&◌, ◌||◌}
 use Rattle.std.specs.Prelude.{not, find, option_map, is_none}
 use Rattle.std.specs.List.{list_any}
-use Rattle.std.specs.Option.{option_or}
 use Rattle.morty_base.proofs.Orders.{same_exec_tells}
 use Rattle.protocol.specs.Words.{Version, Exec, Key, NodeId, before, same_version, same_exec, Choice, ToCommit, Content, Kept, Decide}
 use Rattle.protocol.specs.declared.Held.{Held}
 use Rattle.protocol.specs.Lists.{one_when}
 use Rattle.protocol.specs.Replica.Taken.{Handled, dropped}
 use Rattle.protocol.specs.Replica.Acceptor.{commits, decided}
-use Rattle.protocol.specs.Replica.Held.{last_write, kept_put}
-use Rattle.mv_index.proofs.Growth.{option_or_none, later_none}
-use Rattle.mv_index.specs.HeldByExec.{committed_content, has_commit, is_blocked, last_of_content, last_of_put, sure_by, open_by}
+use Rattle.protocol.specs.Replica.Held.{kept_put}
+use Rattle.mv_index.proofs.Growth.{later_none}
+use Rattle.mv_index.specs.HeldByExec.{committed_content, has_commit, is_blocked, last_of_put, open_by}
 use Rattle.mv_index.proofs.Values.{find_in, commit_decides}
 
 abbrev pub after_commit : Handled → NodeId → NodeId → Exec → Content → Handled
@@ -62,31 +61,6 @@ content_stands h from to y c x old new e b oe ne =
     go : (t : Bool) → ((t ≡ true) × (x ≡ y)) ⊎ ((t ≡ false) × (x ≢ y)) → cond t (Some c) (cond (before (dropped h) x.ver) (committed_content h x) None)
         ≡ cond (before (dropped h) x.ver) (cond t (Some c) (committed_content h x)) None
     go true (inl q) = sym (ap (λ t. cond t (Some c) None) (ap (λ (z : Exec). before (dropped h) z.ver) q.1 ∙ b))
-    go true (inr q) = absurd (cc (q.0))
-    go false q = refl
-
-pub sure_new : (h : Handled) (from to : NodeId) (y : Exec) (c : Content) (k : Key) (x : Exec) (old new : Option Held) → decided h y ≡ None →
-    before (dropped h) y.ver ≡ true → old ≡ sure_by h k x → new ≡ cond (same_exec x y) (option_or (last_write y true 1 k c.writes) old) old →
-    new ≡ sure_by (after_commit h from to y c) k x
-unfolding sure_by
-sure_new h from to y c k x old new e b oe ne =
-    ne ∙ (ap (λ o. cond (same_exec x y) (option_or (last_write y true 1 k c.writes) o) o) oe
-    ∙ (go (same_exec x y) (same_exec_tells x y)
-    ∙ (ap (λ o. cond (before (dropped h) x.ver) (last_of_content k x o) None) (sym (content_more h from to y c e x))
-    ∙ ap (λ d. cond (before d x.ver) (last_of_content k x (committed_content (after_commit h from to y c) x)) None) (sym (later_none (dropped h))))))
-  where
-    go : (t : Bool) → ((t ≡ true) × (x ≡ y)) ⊎ ((t ≡ false) × (x ≢ y)) →
-        cond t (option_or (last_write y true 1 k c.writes) (cond (before (dropped h) x.ver) (last_of_content k x (committed_content h x)) None)) (cond
-        (before (dropped h) x.ver) (last_of_content k x (committed_content h x)) None)
-        ≡ cond (before (dropped h) x.ver) (last_of_content k x (cond t (Some c) (committed_content h x))) None
-    go true (inl q) =
-        let above : before (dropped h) x.ver ≡ true = ap (λ (z : Exec). before (dropped h) z.ver) q.1 ∙ b in
-        let none : committed_content h x ≡ None = ap (committed_content h) q.1 ∙ uncommitted h y e in
-        ap (λ t. option_or (last_write y true 1 k c.writes) (cond t (last_of_content k x (committed_content h x)) None)) above
-        ∙ (ap (λ o. option_or (last_write y true 1 k c.writes) (last_of_content k x o)) none
-        ∙ (option_or_none (last_write y true 1 k c.writes)
-        ∙ (ap (λ z. last_write z true 1 k c.writes) (sym q.1)
-        ∙ sym (ap (λ t. cond t (last_write x true 1 k c.writes) None) above))))
     go true (inr q) = absurd (cc (q.0))
     go false q = refl
 

@@ -5,11 +5,11 @@ use Rattle.std.specs.List.{list_any, AllByRecursion}
 use Rattle.std.specs.List.Sorted.{IsStrictlySortedBy}
 use Rattle.std.specs.Map.{lookup, keys_of}
 use Rattle.std.specs.Ordering.{is_eq}
-use Rattle.std.specs.BTreeMap.{BTreeMap, IsOrdered, get, is_at}
+use Rattle.std.specs.BTreeMap.{is_at}
 use Rattle.std.specs.declared.cmp.Ordering.TheVariants.{Less}
 use Rattle.std.proofs.lemmas.Map.Keys.{sorted_head, sorted_tail}
 use Rattle.morty_base.proofs.Orders.{same_exec_tells}
-use Rattle.protocol.specs.Words.{Version, Exec, before, same_exec, Content, Kept}
+use Rattle.protocol.specs.Words.{Exec, before, same_exec, Content, Kept}
 use Rattle.protocol.specs.Lists.{IsIn}
 use Rattle.protocol.specs.Replica.Taken.{Handled, dropped}
 use Rattle.protocol.specs.Replica.Acceptor.{commits}
@@ -67,20 +67,6 @@ lookup_in x (e ∷ es) c g = go (is_at (exec_cmp x) e.0) refl g (lookup_in x es 
         × (x ≡ f.0) × (f.1 ≡ c)
     go true h g more = let q : e.1 ≡ c = cc in (e, inl refl, sym (same_exec_is e.0 x (sym (exec_eq x e.0) ∙ h)), q)
     go false h g more = let k = more g in (k.0, inr k.1, k.2, k.3)
-
-pub conflict_found : (m : BTreeMap Exec Content) (v : Version) (c : Content) (t : Bool) → IsOrdered exec_cmp m →
-    t ≡ list_any (λ (e : Exec × Content). conflicts v c e.0.ver e.1) m.entries → HasConflict (λ x. get exec_cmp m x) v c t
-conflict_found m v c true o e =
-    let k = any_in (λ (e : Exec × Content). conflicts v c e.0.ver e.1) m.entries (sym e) in
-    (k.0.0, k.0.1, entry_found m.entries k.0 o k.1, k.2)
-conflict_found m v c false o e = λ x d g. go x d (lookup_in x m.entries d g) (conflicts v c x.ver d) refl
-  where
-    go : (x : Exec) (d : Content) → (f : Exec × Content) × IsIn f m.entries × (x ≡ f.0) × (f.1 ≡ d) → (s : Bool) → conflicts v c x.ver d ≡ s → s ≡ false
-    go x d k false f = refl
-    go x d (k, i, p, q) true f =
-        let here : conflicts v c k.0.ver k.1 ≡ true = ap (λ (y : Exec). conflicts v c y.ver k.1) (sym p) ∙ (ap (conflicts v c x.ver) q ∙ f) in
-        let z = in_any (λ (e : Exec × Content). conflicts v c e.0.ver e.1) m.entries k i here in
-        absurd (cc (z, e))
 
 -- ---- what is committed
 

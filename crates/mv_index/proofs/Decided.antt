@@ -7,7 +7,7 @@ use Rattle.protocol.specs.Replica.Taken.{Handled, dropped}
 use Rattle.protocol.specs.Replica.Acceptor.{decided}
 use Rattle.protocol.specs.Replica.Held.{Put, kept_put, last_write}
 use Rattle.mv_index.proofs.Growth.{later_none}
-use Rattle.mv_index.specs.WriteIndex.{writes_key}
+use Rattle.protocol.specs.Replica.Votes.{writes_key}
 use Rattle.mv_index.specs.HeldByExec.{committed_content, has_commit, is_blocked, last_of_content, last_of_put, sure_by, open_by, kept_writes}
 use Rattle.mv_index.proofs.PutsTurn.{last_write_none, cond_none}
 use Rattle.mv_index.proofs.CommitTurn.{after_commit, content_more, has_commit_more, uncommitted}

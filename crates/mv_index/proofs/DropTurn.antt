@@ -5,7 +5,7 @@ use Rattle.morty_base.proofs.Orders.{before_total}
 use Rattle.protocol.specs.Words.{Version, Exec, Key, NodeId, before, no_version, BaseEntry, Drops}
 use Rattle.protocol.specs.Replica.Taken.{Handled, dropped}
 use Rattle.protocol.specs.Replica.Held.{kept_put}
-use Rattle.mv_index.specs.HeldByExec.{committed_content, has_commit, is_blocked, last_of_content, last_of_put, sure_by, open_by}
+use Rattle.mv_index.specs.HeldByExec.{has_commit, is_blocked, last_of_put, open_by}
 use Rattle.mv_index.proofs.PutsTurn.{cond_none}
 
 abbrev pub after_drop : Handled → NodeId → NodeId → Version → List BaseEntry → Handled
@@ -28,13 +28,6 @@ cut_test d w v o b = go (before w v) refl
     go : (t : Bool) → before w v ≡ t → (t && (before d v && o)) ≡ (t && o)
     go true e = ap (λ t. t && o) (before_total.transitive d w v b e)
     go false e = refl
-
-pub sure_cut : (h : Handled) (from to : NodeId) (w : Version) (new : List BaseEntry) (k : Key) (x : Exec) → before (dropped h) w ≡ true →
-    cond (before w x.ver) (sure_by h k x) None ≡ sure_by (after_drop h from to w new) k x
-unfolding sure_by
-sure_cut h from to w new k x b =
-    cut_again (dropped h) w x.ver (last_of_content k x (committed_content h x)) b
-    ∙ ap (λ d. cond (before d x.ver) (last_of_content k x (committed_content h x)) None) (sym (dropped_now h from to w new b))
 
 pub open_cut : (h : Handled) (from to : NodeId) (w : Version) (new : List BaseEntry) (k : Key) (x : Exec) → before (dropped h) w ≡ true →
     cond (before w x.ver) (open_by h k x) None ≡ open_by (after_drop h from to w new) k x
@@ -60,10 +53,6 @@ nothing_blocked v = go (before no_version v)
     go : (t : Bool) → false ≡ (t && false)
     go true = refl
     go false = refl
-
-pub nothing_sure : (k : Key) (x : Exec) → None ≡ sure_by [] k x
-unfolding sure_by
-nothing_sure k x = sym (cond_none (before no_version x.ver))
 
 pub nothing_open : (k : Key) (x : Exec) → None ≡ open_by [] k x
 unfolding open_by

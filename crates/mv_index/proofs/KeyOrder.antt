@@ -10,21 +10,21 @@ use Rattle.mv_index.specs.KeyList.{AreRising, is_key}
 pub below_down : (k : Key) (l m : Key) → key_before l m ≡ true → key_before m k ≡ true → key_before l k ≡ true
 below_down k l m e f = key_before_total.transitive l m k e f
 
-not_same : (k l : Key) → key_before l k ≡ true → same_key k l ≡ false
+pub not_same : (k l : Key) → key_before l k ≡ true → same_key k l ≡ false
 not_same k l e = elim (same_key_tells k l) [
   | inl q ↦ let z : key_before l l ≡ true = subst (λ m. key_before l m ≡ true) q.1 e in
       let y : key_before l l ≡ false = key_before_total.irreflexive l in absurd cc
   | inr q ↦ q.0
 ]
 
-not_same_up : (k l : Key) → key_before k l ≡ true → same_key k l ≡ false
+pub not_same_up : (k l : Key) → key_before k l ≡ true → same_key k l ≡ false
 not_same_up k l e = elim (same_key_tells k l) [
   | inl q ↦ let z : key_before k k ≡ true = subst (λ m. key_before k m ≡ true) (sym q.1) e in
       let y : key_before k k ≡ false = key_before_total.irreflexive k in absurd cc
   | inr q ↦ q.0
 ]
 
-above : (k l : Key) → key_before l k ≡ false → same_key k l ≡ false → key_before k l ≡ true
+pub above : (k l : Key) → key_before l k ≡ false → same_key k l ≡ false → key_before k l ≡ true
 above k l e f = go (key_before k l) refl
   where
     go : (t : Bool) → key_before k l ≡ t → key_before k l ≡ true

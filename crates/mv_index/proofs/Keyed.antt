@@ -2,12 +2,12 @@
 use Rattle.std.proofs.Common.{◌≡◌, inl, inr, ℕ, zero, suc, Bool, true, false, cond, List, [], ◌∷◌, take, drop, refl, ap, sym, subst, ◌∙◌, ◌&&◌}
 use Rattle.std.specs.Prelude.{filter, not}
 use Rattle.morty_base.proofs.Orders.{same_key_tells, key_before_total}
-use Rattle.protocol.specs.Words.{Key, before, key_before, same_key}
+use Rattle.protocol.specs.Words.{Key, Version, before, key_before, same_key}
 use Rattle.protocol.specs.Lists.{IsIn}
-use Rattle.protocol.proofs.TestLemmas.{and_left}
+use Rattle.protocol.proofs.TestLemmas.{and_left, and_right}
 use Rattle.mv_index.specs.declared.reader_list.Reader.{Reader}
 use Rattle.mv_index.specs.ReaderList.{prefix, stands_before, IsInOrder}
-use Rattle.mv_index.proofs.Sorted.{is_key, or_cases}
+use Rattle.mv_index.proofs.Sorted.{is_key, or_cases, or_left, or_right, both, false_where, stands_down}
 
 pub order_drop : (i : ℕ) (rs : List Reader) → IsInOrder rs → IsInOrder (drop i rs)
 order_drop zero rs o = o
@@ -87,33 +87,58 @@ front_keyed k (s ∷ ss) o h = go (key_before k s.key) refl (front_keyed k ss o.
           | inr g ↦ subst (λ l. key_before k l ≡ true) (is_key s.key y.key (and_left (same_key s.key y.key) (before s.ver y.ver) g)) e
         ]
 
-pub keyed : (k : Key) (rs : List Reader) → IsInOrder rs → let rest = drop (prefix (λ (r : Reader). key_before r.key k) rs) rs in
-    take (prefix (λ (r : Reader). not (key_before k r.key)) rest) rest ≡ filter (λ (r : Reader). same_key k r.key) rs
-keyed k [] o = refl
-keyed k (s ∷ ss) o = go (key_before s.key k) refl (keyed k ss o.1)
+filter_alike : (p q : Reader → Bool) (rs : List Reader) → ((y : Reader) → IsIn y rs → p y ≡ q y) → filter p rs ≡ filter q rs
+filter_alike p q [] h = refl
+filter_alike p q (r ∷ rs) h = ap (λ t. cond t (r ∷ filter p rs) (filter p rs)) (h r (inl refl))
+    ∙ ap (λ l. cond (q r) (r ∷ l) l) (filter_alike p q rs (λ y i. h y (inr i)))
+
+-- a reader of the key, at or above the version
+abbrev pub reads_from : Key → Version → Reader → Bool
+reads_from k v r = same_key k r.key && not (before r.ver v)
+
+same_turned : (k l : Key) → same_key k l ≡ true → same_key l k ≡ true
+same_turned k l e = subst (λ m. same_key m k ≡ true) (is_key k l e) (subst (λ m. same_key k m ≡ true) (sym (is_key k l e)) e)
+
+stands_apart : (k : Key) (v : Version) (r : Reader) → stands_before k v r ≡ true → reads_from k v r ≡ false
+stands_apart k v r e = elim (or_cases (key_before r.key k) (same_key r.key k && before r.ver v) e) [
+  | inl g ↦ ap (λ t. t && not (before r.ver v)) (above_other k r.key g)
+  | inr g ↦ ap (λ t. same_key k r.key && not t) (and_right (same_key r.key k) (before r.ver v) g) ∙ never (same_key k r.key)
+]
   where
-    go : (t : Bool) → key_before s.key k ≡ t → (let rest = drop (prefix (λ (r : Reader). key_before r.key k) ss) ss in
-        take (prefix (λ (r : Reader). not (key_before k r.key)) rest) rest ≡ filter (λ (r : Reader). same_key k r.key) ss) →
-        let rest = drop (cond t (suc (prefix (λ (r : Reader). key_before r.key k) ss)) 0) (s ∷ ss) in
-        take (prefix (λ (r : Reader). not (key_before k r.key)) rest) rest ≡ filter (λ (r : Reader). same_key k r.key) (s ∷ ss)
-    go true e more = more ∙ sym (ap (λ t. cond t (s ∷ filter (λ (r : Reader). same_key k r.key) ss) (filter (λ (r : Reader). same_key k r.key) ss))
-        (above_other k s.key e))
-    go false e more = front_keyed k (s ∷ ss) o (λ y i. elim i [
-      | inl q ↦ ap (λ (z : Reader). key_before z.key k) q
-          ∙ e
-      | inr j ↦ lower y (key_up_to s y (o.0 y j))
-    ])
+    never : (a : Bool) → (a && false) ≡ false
+    never true = refl
+    never false = refl
+
+stands_from : (k : Key) (v : Version) (r : Reader) → stands_before k v r ≡ false → same_key k r.key ≡ reads_from k v r
+stands_from k v r e = go (same_key k r.key) refl (before r.ver v) refl
+  where
+    go : (a : Bool) → same_key k r.key ≡ a → (b : Bool) → before r.ver v ≡ b → a ≡ (a && not b)
+    go false f b g = refl
+    go true f false g = refl
+    go true f true g =
+        let z : stands_before k v r ≡ true = or_right (key_before r.key k) (same_key r.key k && before r.ver v)
+        (both (same_key r.key k) (before r.ver v) (same_turned k r.key f) g) in
+        absurd (cc (z, e))
+
+-- the readers of a key from a version on stand next to each other
+pub keyed_from : (k : Key) (v : Version) (rs : List Reader) → IsInOrder rs → let rest = drop (prefix (stands_before k v) rs) rs in
+    take (prefix (λ (r : Reader). not (key_before k r.key)) rest) rest ≡ filter (reads_from k v) rs
+keyed_from k v [] o = refl
+keyed_from k v (s ∷ ss) o = go (stands_before k v s) refl (keyed_from k v ss o.1)
+  where
+    go : (t : Bool) → stands_before k v s ≡ t → (let rest = drop (prefix (stands_before k v) ss) ss in
+        take (prefix (λ (r : Reader). not (key_before k r.key)) rest) rest ≡ filter (reads_from k v) ss) →
+        let rest = drop (cond t (suc (prefix (stands_before k v) ss)) 0) (s ∷ ss) in
+        take (prefix (λ (r : Reader). not (key_before k r.key)) rest) rest ≡ filter (reads_from k v) (s ∷ ss)
+    go true e more = more ∙ sym (ap (λ t. cond t (s ∷ filter (reads_from k v) ss) (filter (reads_from k v) ss)) (stands_apart k v s e))
+    go false e more =
+        front_keyed k (s ∷ ss) o (λ y i. false_where (key_before y.key k) (λ f. cc (
+          or_left (key_before y.key k)
+              (same_key y.key k && before y.ver v) f,
+          none y i,
+        )))
+        ∙ filter_alike (λ (r : Reader). same_key k r.key) (reads_from k v) (s ∷ ss) (λ y i. stands_from k v y (none y i))
       where
-        lower : (y : Reader) → key_before y.key s.key ≡ false → key_before y.key k ≡ false
-        lower y f = by (key_before y.key k) refl
-          where
-            by : (t : Bool) → key_before y.key k ≡ t → t ≡ false
-            by false g = refl
-            by true g = absurd (cc (f, under))
-              where
-                under : key_before y.key s.key ≡ true
-                under = under_of (key_before k s.key) refl
-                  where
-                    under_of : (t : Bool) → key_before k s.key ≡ t → key_before y.key s.key ≡ true
-                    under_of true z = key_before_total.transitive y.key k s.key g z
-                    under_of false z = subst (λ l. key_before y.key l ≡ true) (key_before_total.total k s.key z e) g
+        none : (y : Reader) → IsIn y (s ∷ ss) → stands_before k v y ≡ false
+        none y (inl q) = subst (λ (z : Reader). stands_before k v z ≡ false) (sym q) e
+        none y (inr j) = false_where (stands_before k v y) (λ f. cc (stands_down k v s y (o.0 y j) f, e))

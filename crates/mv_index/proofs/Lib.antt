@@ -1,4 +1,6 @@
 pub mod AbandonTurn
+pub mod BaseSearch
+pub mod Below
 pub mod Best
 pub mod CommitTurn
 pub mod CommittedList
@@ -7,8 +9,11 @@ pub mod Counting
 pub mod Decided
 pub mod DropTurn
 pub mod Filling
+pub mod FirstValuesLemmas
 pub mod Growth
 pub mod Holding
+pub mod HoldingsLemmas
+pub mod IndexedContents
 pub mod KeyOrder
 pub mod Keyed
 pub mod Latest
@@ -16,6 +21,9 @@ pub mod Marking
 pub mod OpenValues
 pub mod PlaceOrder
 pub mod PutsTurn
+pub mod ReadIndexLemmas
+pub mod ReadsFrom
+pub mod ReadsLeft
 pub mod RisingLemmas
 pub mod Same
 pub mod SoFar

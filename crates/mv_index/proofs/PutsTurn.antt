@@ -9,7 +9,7 @@ use Rattle.protocol.specs.declared.Held.{Held}
 use Rattle.protocol.specs.Replica.Taken.{Handled, later, dropped}
 use Rattle.protocol.specs.Replica.Held.{Put, larger, last_write, kept_put}
 use Rattle.mv_index.proofs.Growth.{option_or_none, later_none}
-use Rattle.mv_index.specs.WriteIndex.{writes_key}
+use Rattle.protocol.specs.Replica.Votes.{writes_key}
 use Rattle.mv_index.specs.PutTable.{replaces}
 use Rattle.mv_index.specs.HeldByExec.{committed_content, has_commit, is_blocked, last_of_content, last_of_put, sure_by, open_by}
 use Rattle.mv_index.proofs.OpenValues.{kept_is}

@@ -13,7 +13,7 @@ use Rattle.protocol.specs.Replica.Taken.{Handled, dropped, base}
 use Rattle.protocol.specs.Replica.Acceptor.{commits}
 use Rattle.protocol.specs.Replica.Held.{Put, larger, first_held, last_write, last_put, counting_put, kept_put, put_versions, best_below, held, latest}
 use Rattle.protocol.specs.Replica.Readers.{Reader, put_reader, reader_after, readers, same_held, note_for, due}
-use Rattle.mv_index.specs.WriteIndex.{writes_key}
+use Rattle.protocol.specs.Replica.Votes.{writes_key}
 use Rattle.mv_index.proofs.PutsTurn.{last_write_none, after_puts, sure_puts}
 use Rattle.mv_index.proofs.Growth.{later_none}
 use Rattle.mv_index.specs.HeldByExec.{committed_content, has_commit, is_blocked, last_of_content, last_of_put, sure_by, open_by, entries_of, kept_writes}
@@ -21,9 +21,10 @@ use Rattle.mv_index.proofs.Best.{AreValues, IsBest, best_is, best_below_append, 
 use Rattle.mv_index.proofs.Values.{sure_values}
 use Rattle.mv_index.proofs.OpenValues.{open_values}
 
--- two lists with the same values have the same best
-pub best_same : (v : Version) (b : Held) (f : Exec → Option Held) (xs ys : List Held) → AreValues f xs → AreValues f ys → best_below v b xs ≡ best_below v b ys
-best_same v b f xs ys k l = go (best_is v b xs) (best_is v b ys)
+-- two lists with the same values below a version have the same best
+pub best_same : (v : Version) (b : Held) (f g : Exec → Option Held) (xs ys : List Held) → AreValues f xs → AreValues g ys →
+    ((x : Exec) → before x.ver v ≡ true → f x ≡ g x) → best_below v b xs ≡ best_below v b ys
+best_same v b f g xs ys k l same = go (best_is v b xs) (best_is v b ys)
   where
     r : Held
     r = best_below v b xs
@@ -34,18 +35,18 @@ best_same v b f xs ys k l = go (best_is v b xs) (best_is v b ys)
     go : IsBest v b xs (best_below v b xs) → IsBest v b ys (best_below v b ys) → best_below v b xs ≡ best_below v b ys
     go i j = elim i.among [ inl p ↦ first p | inr p ↦ some p ]
       where
-        there : (a : Held) → IsIn a xs → IsIn a ys
-        there a m = (l.complete (exec_of a.wid) a (k.sound a m)).0
+        there : (a : Held) → IsIn a xs → before a.wid.ver v ≡ true → IsIn a ys
+        there a m c = (l.complete (exec_of a.wid) a (sym (same (exec_of a.wid) c) ∙ k.sound a m)).0
 
-        back : (a : Held) → IsIn a ys → IsIn a xs
-        back a m = (k.complete (exec_of a.wid) a (l.sound a m)).0
+        back : (a : Held) → IsIn a ys → before a.wid.ver v ≡ true → IsIn a xs
+        back a m c = (k.complete (exec_of a.wid) a (same (exec_of a.wid) c ∙ l.sound a m)).0
 
         first : best_below v b xs ≡ b → best_below v b xs ≡ best_below v b ys
         first p = elim j.among [
           | inl q ↦ p ∙ sym q
           | inr q ↦
               let z : wid_before b.wid (best_below v b ys).wid ≡ false =
-              subst (λ (a : Held). wid_before a.wid (best_below v b ys).wid ≡ false) p (i.most (best_below v b ys) (back (best_below v b ys) q.0) q.1) in
+              subst (λ (a : Held). wid_before a.wid (best_below v b ys).wid ≡ false) p (i.most (best_below v b ys) (back (best_below v b ys) q.0 q.1) q.1) in
               absurd (cc (z, q.2))
         ]
 
@@ -54,20 +55,18 @@ best_same v b f xs ys k l = go (best_is v b xs) (best_is v b ys)
         some p = elim j.among [
           | inl q ↦
               let z : wid_before b.wid (best_below v b xs).wid ≡ false =
-              subst (λ (a : Held). wid_before a.wid (best_below v b xs).wid ≡ false) q (j.most (best_below v b xs) (there (best_below v b xs) p.0) p.1) in
+              subst (λ (a : Held). wid_before a.wid (best_below v b xs).wid ≡ false) q (j.most (best_below v b xs) (there (best_below v b xs) p.0 p.1) p.1) in
               absurd (cc (z, p.2))
           | inr q ↦
-              let one = i.most (best_below v b ys) (back (best_below v b ys) q.0) q.1 in
-              let two = j.most (best_below v b xs) (there (best_below v b xs) p.0) p.1 in
-              let same : (best_below v b xs).wid ≡ (best_below v b ys).wid = wid_before_total.total (best_below v b xs).wid (best_below v b ys).wid one two in
+              let one = i.most (best_below v b ys) (back (best_below v b ys) q.0 q.1) q.1 in
+              let two = j.most (best_below v b xs) (there (best_below v b xs) p.0 p.1) p.1 in
+              let named : (best_below v b xs).wid ≡ (best_below v b ys).wid = wid_before_total.total (best_below v b xs).wid (best_below v b ys).wid one two in
               let here : f (exec_of (best_below v b xs).wid) ≡ Some (best_below v b ys) =
-              subst (λ w. f (exec_of w) ≡ Some (best_below v b ys)) (sym same) (l.sound (best_below v b ys) q.0) in
+              subst (λ w. f (exec_of w) ≡ Some (best_below v b ys)) (sym named)
+              (same (exec_of (best_below v b ys).wid) q.1 ∙ l.sound (best_below v b ys) q.0) in
               let also : f (exec_of (best_below v b xs).wid) ≡ Some (best_below v b xs) = k.sound (best_below v b xs) p.0 in
               cc
         ]
-
-values_same : (f g : Exec → Option Held) (xs : List Held) → ((x : Exec) → g x ≡ f x) → AreValues g xs → AreValues f xs
-values_same f g xs e k = record { sound = λ a i. sym (e (exec_of a.wid)) ∙ k.sound a i; complete = λ x a i. k.complete x a (e x ∙ i) }
 
 -- what is seen of a key depends on what is held of that key alone
 pub record SameAt (k : Key) (h h' : Handled) : Type 0 where
@@ -90,17 +89,26 @@ latest_is firsts h k v =
     best_below_append v (first_held firsts k) (first_held firsts k ∷ entries_of k (base h)) (committed_of h k ++ others_of h k)
     ∙ best_below_append v (best_below v (first_held firsts k) (first_held firsts k ∷ entries_of k (base h))) (committed_of h k) (others_of h k)
 
-pub latest_same : (firsts : List First2) (h h' : Handled) (k : Key) (v : Version) → SameAt k h h' → latest firsts h' k v ≡ latest firsts h k v
-latest_same firsts h h' k v s =
+-- what a reader at a version sees of a key depends on what is held of that key below the version alone
+pub record SameBelow (v : Version) (k : Key) (h h' : Handled) : Type 0 where
+  pub based : entries_of k (base h') ≡ entries_of k (base h)
+  pub sure : (x : Exec) → before x.ver v ≡ true → sure_by h' k x ≡ sure_by h k x
+  pub tried : (x : Exec) → before x.ver v ≡ true → open_by h' k x ≡ open_by h k x
+
+pub latest_same_below : (firsts : List First2) (h h' : Handled) (k : Key) (v : Version) → SameBelow v k h h' → latest firsts h' k v ≡ latest firsts h k v
+latest_same_below firsts h h' k v s =
     let first = first_held firsts k in
     let base' = best_below v first (first ∷ entries_of k (base h')) in
     latest_is firsts h' k v
-    ∙ (best_same v (best_below v base' (committed_of h' k)) (open_by h k) (others_of h' k) (others_of h k)
-    (values_same (open_by h k) (open_by h' k) (others_of h' k) s.tried (open_values h' k)) (open_values h k)
-    ∙ (ap (λ b. best_below v b (others_of h k)) (best_same v base' (sure_by h k) (committed_of h' k) (committed_of h k)
-    (values_same (sure_by h k) (sure_by h' k) (committed_of h' k) s.sure (sure_values h' k)) (sure_values h k)
+    ∙ (best_same v (best_below v base' (committed_of h' k)) (open_by h' k) (open_by h k) (others_of h' k) (others_of h k) (open_values h' k)
+    (open_values h k) s.tried
+    ∙ (ap (λ b. best_below v b (others_of h k)) (best_same v base' (sure_by h' k) (sure_by h k) (committed_of h' k) (committed_of h k) (sure_values h' k)
+    (sure_values h k) s.sure
     ∙ ap (λ es. best_below v (best_below v first (first ∷ es)) (committed_of h k)) s.based)
     ∙ sym (latest_is firsts h k v)))
+
+pub latest_same : (firsts : List First2) (h h' : Handled) (k : Key) (v : Version) → SameAt k h h' → latest firsts h' k v ≡ latest firsts h k v
+latest_same firsts h h' k v s = latest_same_below firsts h h' k v (record { based = s.based; sure = λ x b. s.sure x; tried = λ x b. s.tried x })
 
 -- ---- the readers of one envelope earlier
 

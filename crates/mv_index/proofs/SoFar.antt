@@ -1,13 +1,13 @@
 -- The readers of a key are told one after another.
-use Rattle.std.proofs.Common.{◌≡◌, inl, inr, ℕ, zero, suc, ◌+◌, ◌<◌, ◌≤◌, arith, Bool, true, false, cond, List, [], ◌∷◌, ◌++◌, ◌&&◌, length, map, get_or, take, drop, refl, ap, sym, subst, ◌∙◌, Some}
+use Rattle.std.proofs.Common.{◌≡◌, inl, inr, ℕ, zero, suc, ◌+◌, ◌<◌, ◌≤◌, arith, Bool, true, false, cond, List, [], ◌∷◌, ◌++◌, ◌&&◌, ◌||◌, length, map, get_or, take, drop, refl, ap, sym, subst, ◌∙◌, Some}
 use Rattle.std.specs.Prelude.{slice_get, slice_set}
 use Rattle.morty_base.proofs.Orders.{key_before_total}
 use Rattle.protocol.specs.Words.{Key, Version, before, key_before, same_key}
 use Rattle.protocol.specs.declared.Held.{Held}
 use Rattle.protocol.specs.Lists.{IsIn}
-use Rattle.protocol.proofs.TestLemmas.{and_left}
+use Rattle.protocol.proofs.TestLemmas.{and_left, and_right}
 use Rattle.mv_index.specs.declared.reader_list.Reader.{Reader}
-use Rattle.mv_index.specs.ReaderList.{prefix, stands_before, told_now, IsInOrder}
+use Rattle.mv_index.specs.ReaderList.{prefix, stands_before, told_now, WereToldBelow, IsInOrder}
 use Rattle.mv_index.proofs.Sorted.{is_key, or_cases, key_down}
 use Rattle.mv_index.proofs.Keyed.{above_other, below_other, neither_same}
 
@@ -54,17 +54,37 @@ pub told_same : (seen : Key → Version → Held) (k : Key) (r : Reader) (a : He
 told_same seen k r a e f = ap (λ (b : Held). let s : Reader = record r { told = Some b } in s) f
     ∙ sym (ap (λ t. cond t (record r { told = Some (seen r.key r.ver) }) r) e)
 
--- those before the key stay
-pub so_far_first : (seen : Key → Version → Held) (k : Key) (rs : List Reader) →
-    rs ≡ so_far (told_now seen k) (prefix (λ (r : Reader). key_before r.key k) rs) rs
-so_far_first seen k [] = refl
-so_far_first seen k (r ∷ rs) = go (key_before r.key k) refl (so_far_first seen k rs)
+-- those before the key stay, and those below the version were told
+pub so_far_start : (seen : Key → Version → Held) (k : Key) (v : Version) (rs : List Reader) → WereToldBelow seen v rs →
+    rs ≡ so_far (told_now seen k) (prefix (stands_before k v) rs) rs
+so_far_start seen k v [] w = refl
+so_far_start seen k v (r ∷ rs) w = go (stands_before k v r) refl (so_far_start seen k v rs (λ y i. w y (inr i)))
   where
-    go : (t : Bool) → key_before r.key k ≡ t → rs ≡ so_far (told_now seen k) (prefix (λ (r : Reader). key_before r.key k) rs) rs →
-        r ∷ rs ≡ so_far (told_now seen k) (cond t (suc (prefix (λ (r : Reader). key_before r.key k) rs)) 0) (r ∷ rs)
-    go true e more = ap (λ l. r ∷ l) more ∙ ap (λ x. x ∷ so_far (told_now seen k) (prefix (λ (r : Reader). key_before r.key k) rs) rs) (sym
-        (told_other seen k r (above_other k r.key e)))
+    stays : stands_before k v r ≡ true → told_now seen k r ≡ r
+    stays e = elim (or_cases (key_before r.key k) (same_key r.key k && before r.ver v) e) [
+      | inl g ↦ told_other seen k r (above_other k r.key g)
+      | inr g ↦ by (same_key k r.key) (w r (inl refl) (and_right (same_key r.key k) (before r.ver v) g))
+    ]
+      where
+        by : (t : Bool) → r.told ≡ Some (seen r.key r.ver) → cond t (record r { told = Some (seen r.key r.ver) }) r ≡ r
+        by true q = ap (λ o. let s : Reader = record r { told = o } in s) (sym q)
+        by false q = refl
+
+    go : (t : Bool) → stands_before k v r ≡ t → rs ≡ so_far (told_now seen k) (prefix (stands_before k v) rs) rs →
+        r ∷ rs ≡ so_far (told_now seen k) (cond t (suc (prefix (stands_before k v) rs)) 0) (r ∷ rs)
+    go true e more = ap (λ l. r ∷ l) more ∙ ap (λ x. x ∷ so_far (told_now seen k) (prefix (stands_before k v) rs) rs) (sym (stays e))
     go false e more = refl
+
+-- the readers of a key from a version on begin no earlier than all of the key
+pub prefix_from : (k : Key) (v : Version) (rs : List Reader) → prefix (λ (r : Reader). key_before r.key k) rs ≤ prefix (stands_before k v) rs
+prefix_from k v [] = omega arith
+prefix_from k v (r ∷ rs) = go (key_before r.key k) refl (prefix_from k v rs)
+  where
+    go : (t : Bool) → key_before r.key k ≡ t → prefix (λ (r : Reader). key_before r.key k) rs ≤ prefix (stands_before k v) rs →
+        cond t (suc (prefix (λ (r : Reader). key_before r.key k) rs)) 0 ≤ cond (t || (same_key r.key k && before r.ver v))
+        (suc (prefix (stands_before k v) rs)) 0
+    go true e more = omega arith
+    go false e more = omega arith
 
 -- one more is told
 pub so_far_next : (seen : Key → Version → Held) (k : Key) (i : ℕ) (rs now new : List Reader) (d : Reader) (a : Held) → now ≡ so_far (told_now seen k) i rs →

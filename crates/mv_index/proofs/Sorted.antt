@@ -8,7 +8,7 @@ use Rattle.protocol.proofs.TestLemmas.{and_left, and_right}
 use Rattle.mv_index.specs.declared.reader_list.Reader.{Reader}
 use Rattle.mv_index.specs.ReaderList.{prefix, stands_before, is_at, put_marked}
 
-get_or_in : {A : Type 0} (xs : List A) (i : ℕ) (d : A) → i < length xs → IsIn (get_or xs i d) xs
+pub get_or_in : {A : Type 0} (xs : List A) (i : ℕ) (d : A) → i < length xs → IsIn (get_or xs i d) xs
 get_or_in [] i d h = absurd (omega arith)
 get_or_in (x ∷ xs) zero d h = inl refl
 get_or_in (x ∷ xs) (suc i) d h = inr (get_or_in xs i d (omega arith))
@@ -35,14 +35,14 @@ pub or_cases : (a b : Bool) → (a || b) ≡ true → (a ≡ true) ⊎ (b ≡ tr
 or_cases true b e = inl refl
 or_cases false b e = inr e
 
-or_left : (a b : Bool) → a ≡ true → (a || b) ≡ true
+pub or_left : (a b : Bool) → a ≡ true → (a || b) ≡ true
 or_left a b e = ap (λ t. t || b) e
 
-or_right : (a b : Bool) → b ≡ true → (a || b) ≡ true
+pub or_right : (a b : Bool) → b ≡ true → (a || b) ≡ true
 or_right true b e = refl
 or_right false b e = e
 
-both : (a b : Bool) → a ≡ true → b ≡ true → (a && b) ≡ true
+pub both : (a b : Bool) → a ≡ true → b ≡ true → (a && b) ≡ true
 both a b e f = ap (λ t. t && b) e ∙ f
 
 pub is_key : (k l : Key) → same_key k l ≡ true → k ≡ l

@@ -7,7 +7,7 @@ use Rattle.protocol.specs.declared.Held.{Held}
 use Rattle.protocol.specs.Lists.{IsIn}
 use Rattle.protocol.proofs.ListsLemmas.{IsIn-map}
 use Rattle.mv_index.specs.declared.reader_list.Reader.{Reader}
-use Rattle.mv_index.specs.ReaderList.{reader_of, stands_before, told_now, told_in, IsInOrder}
+use Rattle.mv_index.specs.ReaderList.{reader_of, stands_before, told_now, told_in, WereToldBelow, IsInOrder}
 use Rattle.mv_index.proofs.Holding.{any_append}
 
 in_key : (seen : Key → Version → Held) (ks : List Key) (r : Reader) → (told_in seen ks r).key ≡ r.key
@@ -80,3 +80,15 @@ told_next seen ks i d rs now new h o e f =
 pub told_none : (seen : Key → Version → Held) (rs : List Reader) → rs ≡ map (told_in seen []) rs
 told_none seen [] = refl
 told_none seen (r ∷ rs) = ap (λ l. r ∷ l) (told_none seen rs)
+
+-- who was told below a version was so before
+pub below_told : (seen : Key → Version → Held) (ks : List Key) (v : Version) (rs now : List Reader) → now ≡ map (told_in seen ks) rs → WereToldBelow seen v rs →
+    WereToldBelow seen v now
+below_told seen ks v rs now e w = λ r i b. go r b (IsIn-map (told_in seen ks) r rs (subst (λ l. IsIn r l) e i))
+  where
+    go : (r : Reader) → before r.ver v ≡ true → (q : Reader) × IsIn q rs × (r ≡ told_in seen ks q) → r.told ≡ Some (seen r.key r.ver)
+    go r b (q, j, f) = by (list_any (λ k. same_key k q.key) ks) f
+      where
+        by : (t : Bool) → r ≡ cond t (record q { told = Some (seen q.key q.ver) }) q → r.told ≡ Some (seen r.key r.ver)
+        by true g = subst (λ (z : Reader). z.told ≡ Some (seen z.key z.ver)) (sym g) refl
+        by false g = subst (λ (z : Reader). z.told ≡ Some (seen z.key z.ver)) (sym g) (w q j (subst (λ (z : Reader). before z.ver v ≡ true) g b))

@@ -1,10 +1,9 @@
 -- What holds of an envelope that changes nothing of what is held.
-use Rattle.std.proofs.Common.{◌≡◌, ℕ, cond, List, ap, sym, subst, ◌∙◌, None, ◌&&◌, nat_le}
+use Rattle.std.proofs.Common.{◌≡◌, ℕ, cond, List, ap, sym, ◌∙◌, None, ◌&&◌, nat_le}
 use Rattle.std.specs.Prelude.{not, find, option_map}
 use Rattle.std.specs.List.{list_any}
-use Rattle.protocol.specs.Words.{Version, Exec, Key, before, same_version, same_exec, key_before, Kept, BaseEntry}
+use Rattle.protocol.specs.Words.{Version, Exec, Key, before, same_version, same_exec, Kept}
 use Rattle.protocol.specs.declared.First2.{First2}
-use Rattle.protocol.specs.Lists.{IsRisingBy}
 use Rattle.protocol.specs.Replica.Taken.{Handled, dropped, base}
 use Rattle.protocol.specs.Replica.Acceptor.{commits}
 use Rattle.protocol.specs.Replica.Held.{kept_put, abandons, latest}
@@ -53,12 +52,11 @@ holdings_same firsts h h' r s t = record {
   firsts_are = t.firsts_are;
   dropped_is = t.dropped_is ∙ sym s.dropped_is;
   base_is = t.base_is ∙ sym s.base_is;
-  base_rises = subst (λ (l : List BaseEntry). IsRisingBy (λ (a b : BaseEntry). key_before a.key b.key) l) (sym s.base_is) t.base_rises;
   blocked_are = λ v n. t.blocked_are v n ∙ (ap (λ d. before d v && is_blocked h v n) (sym s.dropped_is)
       ∙ ap (λ b. before (dropped h') v && b) (sym (blocked_same h h' s v n)));
   commits_are = λ x. t.commits_are x ∙ (ap (λ d. cond (before d x.ver) (committed_content h x) None) (sym s.dropped_is)
       ∙ ap (λ o. cond (before (dropped h') x.ver) o None) (sym (content_same h h' s x)));
-  sure_are = λ k x. t.sure_are k x ∙ sym ((same_at h h' s k).sure x);
+  commits_indexed = t.commits_indexed;
   open_are = record {
     puts_are = λ v. t.open_are.puts_are v ∙ (ap (λ d. cond (before d v) (kept_put h v) None) (sym s.dropped_is)
         ∙ ap (λ o. cond (before (dropped h') v) o None) (sym (s.kept_are v)));

@@ -2,7 +2,6 @@
 use Rattle.std.specs.Prelude.{ℕ, Bool, true, false, cond, not, ◌&&◌, nat_le, List, [], Option, Some, None, option_map, find, map, filter}
 use Rattle.std.specs.List.{list_any}
 use Rattle.protocol.specs.Words.{Version, Exec, Key, before, same_version, same_exec, same_key, Content, Write, BaseEntry}
-use Rattle.std.specs.Bool.{then_some}
 use Rattle.protocol.specs.declared.Held.{Held}
 use Rattle.protocol.specs.Replica.Taken.{Handled, dropped}
 use Rattle.protocol.specs.Replica.Acceptor.{commits}
@@ -46,7 +45,3 @@ entries_of k bs = map (λ b. record { wid = b.wid; value = b.value; sure = true 
 abbrev pub kept_writes : Option Put → List Write
 kept_writes None = []
 kept_writes (Some p) = p.writes
-
--- what one base entry holds of k
-abbrev pub entry_held_of : Key → BaseEntry → Option Held
-entry_held_of k b = then_some (same_key k b.key) (record { wid = b.wid; value = b.value; sure = true })

@@ -1,10 +1,13 @@
 pub mod AbandonTable
+pub mod BaseEntries
 pub mod ContentTable
+pub mod FirstValues
 pub mod HeldByExec
 pub mod Holdings
 pub mod KeyList
 pub mod OpenWrites
 pub mod Orders
 pub mod PutTable
+pub mod ReadIndex
 pub mod ReaderList
 pub mod WriteIndex

@@ -1,6 +1,5 @@
 -- A write index as a function of key and execution.
-use Rattle.std.specs.Prelude.{◌≡◌, ℕ, Bool, true, false, cond, ◌&&◌, List, Option, Some, None}
-use Rattle.std.specs.List.{list_any}
+use Rattle.std.specs.Prelude.{◌≡◌, ℕ, Bool, true, false, cond, ◌&&◌, Option, Some, None}
 use Rattle.std.specs.declared.cmp.Ordering.{Ordering}
 use Rattle.std.specs.Ordering.{nat_cmp, int_cmp, ordering_then}
 use Rattle.std.specs.BTreeMap.{get}
@@ -19,10 +18,6 @@ place_cmp a b =
 -- what is held of k by x
 abbrev pub held_at : WriteIndex → Key → Exec → Option Held
 held_at w k x = get place_cmp w.held (record { key = k; exec = x })
-
--- some write is of the key
-abbrev pub writes_key : Key → List Write → Bool
-writes_key k ws = list_any (λ w. same_key k w.key) ws
 
 -- of the values that f has at executions below version v, the one of the last execution
 abbrev pub IsLastBelow : Version → (Exec → Option Held) → Option Held → Type 0

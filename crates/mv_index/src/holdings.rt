@@ -19,14 +19,13 @@ ghost use Rattle.protocol.specs.Replica.Votes.{clashes_with_commit, conflicts_wi
 ghost use Rattle.protocol.specs.Replica.Held.{held, last_write, kept_put, first_value as first_value_of, first_held as first_held_of, best_below, latest};
 ghost use Rattle.mv_index.specs.PutTable.{put_of};
 ghost use Rattle.mv_index.specs.WriteIndex.{is_named, better as better_of, best_with as best_with_of, held_at};
-ghost use Rattle.mv_index.specs.HeldByExec.{entry_held_of, entries_of, has_commit, is_blocked};
+ghost use Rattle.mv_index.specs.HeldByExec.{has_commit, is_blocked};
 ghost use Rattle.mv_index.specs.OpenWrites.{KeepsOpen};
 
 use crate::abandon_table::AbandonTable;
-use crate::base_entries::{best_based, best_with, is_based};
-use crate::conflicts::conflicts_with_base;
+use crate::base_entries::{BaseEntries, best_with};
 use crate::content_table::ContentTable;
-use crate::first_values::first_held;
+use crate::first_values::FirstValues;
 use crate::put_table::{Put, PutTable};
 use crate::write_index::WriteIndex;
 use morty_base::{Exec, Key, List, NoMemory, Version, Wid, is_same_wid};
@@ -37,13 +36,12 @@ use std::alloc::Global;
 /// What a replica holds.
 #[derive(Debug, Drop)]
 pub struct Holdings {
-    firsts: List<First2>,
+    firsts: FirstValues,
     dropped: Version,
-    base: List<BaseEntry>,
+    base: BaseEntries,
     puts: PutTable,
     abandoned: AbandonTable,
     commits: ContentTable,
-    sure: WriteIndex,
     unsure: WriteIndex,
 }
 
@@ -105,19 +103,19 @@ fn is_wid(held: Option<Held>, wid: Wid) -> bool
 impl Holdings {
     ghost use Rattle.mv_index.specs.Holdings.{StandsFor};
 
-    pub fn new(alloc: Global, firsts: List<First2>) -> Holdings
-        ensures { StandsFor firsts [] result }
+    pub fn new(alloc: Global, firsts: &[First2]) -> Result<Holdings, NoMemory>
+        ensures { IfOk result (StandsFor firsts.now []) }
     {
-        Holdings {
+        let firsts = FirstValues::new(alloc, firsts)?;
+        Ok(Holdings {
             firsts,
             dropped: Version { ts: 0, client: 0 },
-            base: List::new(alloc),
+            base: BaseEntries::empty(alloc),
             puts: PutTable::new(alloc),
             abandoned: AbandonTable::new(alloc),
             commits: ContentTable::new(alloc),
-            sure: WriteIndex::new(alloc),
             unsure: WriteIndex::new(alloc),
-        }
+        })
     }
 
     /// The base of the last Drop.
@@ -164,7 +162,6 @@ impl Holdings {
         ensures { (firsts : List FirstValue) (h : Handled) (from to : NodeValue) → StandsFor firsts h self.old → before (dropped h) exec.ver ≡ true → decided h exec ≡ None → OnOk result (StandsFor firsts (record { from = from; to = to; body = Decide exec ToCommit (Some content.now) } ∷ h) self.new) }
     {
         clear(&mut self.unsure, &self.puts, exec.ver);
-        self.sure.fill(exec, true, content.writes.as_slice())?;
         self.commits.add(alloc, exec, content)?;
         Ok(())
     }
@@ -183,7 +180,7 @@ impl Holdings {
         ensures { (firsts : List FirstValue) (h : Handled) → StandsFor firsts h self.now → result ≡ (list_any (clashes_with_commit h (record { ver = ver; eid = 0 }) content.now) (commits h) || list_any (conflicts_with_base_of ver content.now) (base h)) }
     {
         let committed = self.commits.conflicts(ver, content);
-        let based = conflicts_with_base(ver, content, self.base.as_slice());
+        let based = self.base.conflicts(ver, content);
         or(committed, based)
     }
 
@@ -202,19 +199,17 @@ impl Holdings {
         self.puts.cut(w);
         self.abandoned.cut(w);
         self.commits.cut(w);
-        self.sure.cut(w);
         self.unsure.cut(w);
         self.dropped = w;
-        self.base = base;
+        self.base = BaseEntries::new(base);
     }
 
     /// What a reader at a version sees of a key: the latest write below it.
     pub fn latest_below(&self, key: Key, ver: Version) -> Held
         ensures { (firsts : List FirstValue) (h : Handled) → StandsFor firsts h self.now → result ≡ latest firsts h key ver }
     {
-        let first = first_held(self.firsts.as_slice(), key);
-        let based = best_based(ver, first, self.base.as_slice(), key);
-        let sure = best_with(ver, based, self.sure.last_below(key, ver));
+        let based = self.base.best_below(ver, self.firsts.held(key), key);
+        let sure = best_with(ver, based, self.commits.last_below(key, ver));
         best_with(ver, sure, self.unsure.last_below(key, ver))
     }
 
@@ -226,9 +221,9 @@ impl Holdings {
             ver: wid.ver,
             eid: wid.eid,
         };
-        let first = is_same_wid(wid, first_held(self.firsts.as_slice(), key).wid);
-        let based = is_based(self.base.as_slice(), key, wid);
-        let sure = is_wid(self.sure.at(key, exec), wid);
+        let first = is_same_wid(wid, self.firsts.held(key).wid);
+        let based = self.base.has(key, wid);
+        let sure = is_wid(self.commits.write_at(key, exec), wid);
         let unsure = is_wid(self.unsure.at(key, exec), wid);
         or(first, or(based, or(sure, unsure)))
     }

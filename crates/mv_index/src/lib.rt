@@ -1,22 +1,23 @@
 //! Indexes of what a replica holds, each an ordered map by a composite key, as in multiversion concurrency control:
-//! the writes by key and execution, kept Puts, abandoned and committed executions, readers with their marks.
+//! writes and reads by key and execution, kept Puts, abandoned executions, contents, readers with their marks.
 //!
 //! Read `specs/HeldByExec` first: what is held of a key, execution by execution, read from the list of envelopes.
-//! Each index is a function of its key (`specs/WriteIndex`, `PutTable`, `AbandonTable`, `ContentTable`), and
-//! `specs/Holdings` says that these functions are those of the list, above the dropped version. In `proofs`, `Best`
+//! Each index is a function of its key (`specs/WriteIndex`, `ReadIndex`, `PutTable`, `AbandonTable`, `ContentTable`),
+//! and `specs/Holdings` says that these functions are those of the list, above the dropped version. In `proofs`, `Best`
 //! shows that the best of a list is the last of a function whose values the list has, `Values` and `OpenValues` that
-//! committed and open writes are such functions, `Latest` that a reader sees the last of them, and `Turns` what one
-//! envelope changes of them.
+//! committed and open writes are such functions, and `Latest` that a reader sees the last of them. `PutsTurn`,
+//! `CommitTurn`, `AbandonTurn` and `DropTurn` say what one envelope changes of them. `IndexedContents` shows that the
+//! indexes of a table of contents tell its conflicts, and `BaseSearch` that a search finds what a base holds of a key.
 #![tactic(auto)]
 
 mod abandon_table;
 mod base_entries;
-mod conflicts;
 mod content_table;
 mod first_values;
 mod holdings;
 mod key_list;
 mod put_table;
+mod read_index;
 mod reader_list;
 mod telling;
 mod write_index;
@@ -26,6 +27,7 @@ pub use content_table::ContentTable;
 pub use holdings::Holdings;
 pub use key_list::KeyList;
 pub use put_table::{Put, PutTable};
+pub use read_index::ReadIndex;
 pub use reader_list::{Reader, ReaderList};
 pub use telling::tell_keys;
 pub use write_index::{Place, WriteIndex};

@@ -1,6 +1,6 @@
 //! Who read what, and what each reader was last told: a list in rising order of key and version.
 
-ghost use Rattle.std.specs.Prelude.{◌≡◌, ◌<◌, ◌≤◌, [], length, slice_get, slice_set, slice_index_or, map, filter, not, Some, None, OnOk};
+ghost use Rattle.std.specs.Prelude.{◌≡◌, ◌<◌, ◌≤◌, ◌&&◌, [], length, slice_get, slice_set, slice_index_or, map, filter, not, Some, None, OnOk};
 ghost use Rattle.morty_base.specs.Names.{before, key_before, same_key};
 ghost use Rattle.mv_index.specs.declared.reader_list.Reader.{Reader as MarkedReader};
 ghost use Rattle.mv_index.specs.ReaderList.{prefix, stands_before, is_at, put_marked, told_at, IsInOrder};
@@ -116,6 +116,14 @@ impl ReaderList {
         }
     }
 
+    /// How many readers stand before those of a key at or above a version.
+    pub fn first_from(&self, key: Key, ver: Version) -> usize
+        ensures within { result ≤ length self.now.readers.items }
+        ensures place { IsInOrder self.now.readers.items → result ≡ prefix (stands_before key ver) self.now.readers.items }
+    {
+        place(self.readers.as_slice(), key, ver)
+    }
+
     /// How many readers are of keys below this one.
     pub fn first_of(&self, key: Key) -> usize
         ensures within { result ≤ length self.now.readers.items }
@@ -126,11 +134,11 @@ impl ReaderList {
             .partition_point(|reader| is_key_before(reader.key, key))
     }
 
-    /// The readers of a key.
-    pub fn of_key(&self, key: Key) -> &[Reader]
-        ensures { IsInOrder self.now.readers.items → result.now ≡ filter (λ r. same_key key r.key) self.now.readers.items }
+    /// The readers of a key at or above a version.
+    pub fn of_key_from(&self, key: Key, ver: Version) -> &[Reader]
+        ensures { IsInOrder self.now.readers.items → result.now ≡ filter (λ r. same_key key r.key && not (before r.ver ver)) self.now.readers.items }
     {
-        let (_, rest) = self.readers.as_slice().split_at(self.first_of(key));
+        let (_, rest) = self.readers.as_slice().split_at(self.first_from(key, ver));
         let (own, _) = rest.split_at(end_of(rest, key));
         own
     }

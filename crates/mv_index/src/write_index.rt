@@ -6,7 +6,8 @@ ghost use Rattle.morty_base.specs.declared.names.Exec.{Exec as ExecValue};
 ghost use Rattle.morty_base.specs.declared.names.Key.{Key as KeyValue};
 ghost use Rattle.morty_base.specs.Names.{before, same_exec, same_key};
 ghost use Rattle.protocol.specs.Replica.Held.{last_write};
-ghost use Rattle.mv_index.specs.WriteIndex.{write_at, held_at, IsLastBelow, writes_key};
+ghost use Rattle.mv_index.specs.WriteIndex.{write_at, held_at, IsLastBelow};
+ghost use Rattle.protocol.specs.Replica.Votes.{writes_key};
 
 use morty_base::{Exec, Key, NoMemory, Version, Wid, is_before};
 use msg::Write;

@@ -2,7 +2,7 @@
 use Rattle.std.proofs.Common.{◌≡◌, ◌⊎◌, inl, inr, Bool, true, false, cond, List, [], ◌∷◌, ◌||◌, ◌&&◌, map, Some, None, ap, sym, subst, refl, ◌∙◌}
 use Rattle.std.specs.Prelude.{filter}
 use Rattle.std.specs.List.{list_any}
-use Rattle.morty_base.proofs.Orders.{same_key_tells, same_version_tells}
+use Rattle.morty_base.proofs.Orders.{same_key_tells, same_version_tells, before_total}
 use Rattle.protocol.specs.Words.{Key, Version, Exec, NodeId, before, key_before, same_key, same_version, Get}
 use Rattle.protocol.specs.declared.First2.{First2}
 use Rattle.protocol.specs.declared.Held.{Held}
@@ -21,8 +21,9 @@ use Rattle.mv_index.proofs.Unchanged.{holdings_same}
 use Rattle.mv_index.proofs.Values.{filter_in}
 use Rattle.mv_index.specs.KeyList.{AreRising}
 use Rattle.mv_index.specs.declared.key_list.KeyList.{KeyList}
-use Rattle.mv_record.specs.Records.{StandsFor, IsTold}
+use Rattle.mv_record.specs.Records.{StandsFor, IsTold, earlier}
 use Rattle.mv_record.specs.declared.records.Records.{Records}
+use Rattle.mv_record.proofs.Quiet.{below_earlier}
 use Rattle.mv_record.proofs.Rising.{stands, marked, readers_rise}
 use Rattle.mv_record.proofs.Unseen.{told_same, get_holds}
 use Rattle.mv_record.proofs.VotesSame.{after_body, get_votes, table_same}
@@ -122,17 +123,18 @@ or_false false b e = e
 abbrev pub HasMore : Key → KeyList → KeyList → Type 0
 HasMore key old new = (k : Key) → list_any (same_key k) new.keys.items ≡ (same_key k key || list_any (same_key k) old.keys.items)
 
-abbrev pub after_read : Records → ReaderList → KeyList → KeyList → Records
-after_read r rs ks ts = record r { readers = rs; reader_keys = ks; touched = ts; broken = false }
+abbrev pub after_read : Records → Version → ReaderList → KeyList → KeyList → Records
+after_read r v rs ks ts = record r { readers = rs; reader_keys = ks; touched = ts; low = earlier r.low v; broken = false }
 
 pub read_stands : (firsts : List First2) (h : Handled) (from to : NodeId) (x : Exec) (k : Key) (r : Records) (rs : ReaderList) (ks ts : KeyList) →
     StandsFor firsts h r → before (dropped h) x.ver ≡ true →
     rs.readers.items ≡ put_marked (record { key = k; ver = x.ver; told = None }) r.readers.readers.items → AreRising ks.keys.items →
     HasMore k r.reader_keys ks → AreRising ts.keys.items → HasMore k r.touched ts →
-    StandsFor firsts (after_body h from to (Get x k)) (after_read r rs ks ts)
+    StandsFor firsts (after_body h from to (Get x k)) (after_read r x.ver rs ks ts)
 read_stands firsts h from to x k r rs ks ts s above e kr kh tr th = record {
   holdings = holdings_same firsts h h' r.holdings (get_holds h from to x k) s.holdings;
   voted = λ y. table_same h h' y _ (later_none (dropped h)) (get_votes h from to x k y) (s.voted y);
+  voted_indexed = s.voted_indexed;
   readers_are = ap (map reader_of) e
       ∙ (put_marked_names (record { key = k; ver = x.ver; told = None }) r.readers.readers.items
       ∙ (ap (put_reader (record { key = k; ver = x.ver })) s.readers_are
@@ -142,6 +144,7 @@ read_stands firsts h from to x k r rs ks ts s above e kr kh tr th = record {
   keys_have = have;
   touched_rise = tr;
   quiet = λ p i z. quiet p (cases p i) r.all_touched refl z;
+  below = λ p i z. below p (cases p i) (below_earlier p.ver r.low x.ver z);
   whole = refl;
 }
   where
@@ -162,6 +165,14 @@ read_stands firsts h from to x k r rs ks ts s above e kr kh tr th = record {
       | inr j ↦ kh p.key
           ∙ or_true (same_key p.key k) (list_any (same_key p.key) r.reader_keys.keys.items) (s.keys_have p j)
     ]
+
+    below : (p : Reader) → (p ≡ record { key = k; ver = x.ver; told = None }) ⊎ IsIn p r.readers.readers.items →
+        (before p.ver r.low ≡ true) × (before p.ver x.ver ≡ true) → IsTold firsts h' p
+    below p (inl q) f =
+        let z : before x.ver x.ver ≡ true = subst (λ (y : Reader). before y.ver x.ver ≡ true) q f.1 in
+        let w : before x.ver x.ver ≡ false = before_total.irreflexive x.ver in
+        absurd (cc (z, w))
+    below p (inr j) f = told_same firsts h h' p (get_holds h from to x k) (s.below p j f.0)
 
     quiet : (p : Reader) → (p ≡ record { key = k; ver = x.ver; told = None }) ⊎ IsIn p r.readers.readers.items → (t : Bool) → r.all_touched ≡ t →
         list_any (same_key p.key) (cond r.all_touched ks.keys.items ts.keys.items) ≡ false → IsTold firsts h' p

@@ -2,7 +2,7 @@
 use Rattle.std.proofs.Common.{◌≡◌, ◌≢◌, ◌⊎◌, inl, inr, Bool, true, false, cond, List, [], ◌∷◌, ◌||◌, map, Some, ap, sym, subst, refl, ◌∙◌}
 use Rattle.std.specs.List.{list_any}
 use Rattle.morty_base.proofs.Orders.{same_key_tells}
-use Rattle.protocol.specs.Words.{Key, same_key}
+use Rattle.protocol.specs.Words.{Version, Key, same_key}
 use Rattle.protocol.specs.declared.First2.{First2}
 use Rattle.protocol.specs.Lists.{IsIn}
 use Rattle.protocol.specs.Replica.Taken.{Handled}
@@ -54,22 +54,24 @@ settled firsts h r new s e p i = go (IsIn-map (told_in (latest firsts h) (listed
           told = subst (IsTold firsts h) (sym f) (s.quiet q j (sym (any_turned q.key (listed r)) ∙ g));
         }
 
-abbrev pub after_settling : Records → ReaderList → KeyList → Records
-after_settling r new none = record r { readers = new; all_touched = false; touched = none }
+abbrev pub after_settling : Records → ReaderList → KeyList → Version → Records
+after_settling r new none low = record r { readers = new; all_touched = false; touched = none; low = low }
 
-pub settle_stands : (firsts : List First2) (h : Handled) (r : Records) (new : ReaderList) (none : KeyList) → StandsFor firsts h r →
+pub settle_stands : (firsts : List First2) (h : Handled) (r : Records) (new : ReaderList) (none : KeyList) (low : Version) → StandsFor firsts h r →
     new.readers.items ≡ map (told_in (latest firsts h) (listed r)) r.readers.readers.items → none.keys.items ≡ [] →
-    StandsFor firsts h (after_settling r new none) × WereTold firsts h (after_settling r new none) × (listed (after_settling r new none) ≡ [])
-settle_stands firsts h r new none s e n = (
+    StandsFor firsts h (after_settling r new none low) × WereTold firsts h (after_settling r new none low) × (listed (after_settling r new none low) ≡ [])
+settle_stands firsts h r new none low s e n = (
   record {
     holdings = s.holdings;
     voted = s.voted;
+    voted_indexed = s.voted_indexed;
     readers_are = ap (map reader_of) e ∙ (told_in_names (latest firsts h) (listed r) r.readers.readers.items ∙ s.readers_are);
     keys_rise = s.keys_rise;
     keys_have = λ p i. let q = settled firsts h r new.readers.items s e p i in ap (λ k. list_any (same_key k) r.reader_keys.keys.items) q.key
         ∙ s.keys_have q.before q.is_in;
     touched_rise = subst (λ l. AreRising l) (sym n) tt;
     quiet = λ p i z. (settled firsts h r new.readers.items s e p i).told;
+    below = λ p i z. (settled firsts h r new.readers.items s e p i).told;
     whole = s.whole;
   },
   record { each = λ p i. (settled firsts h r new.readers.items s e p i).told },

@@ -26,12 +26,14 @@ pub stands_same : (firsts : List First2) (h h' : Handled) (r : Records) → Hold
 stands_same firsts h h' r same votes reads s = record {
   holdings = holdings_same firsts h h' r.holdings same s.holdings;
   voted = λ x. table_same h h' x _ same.dropped_is (votes x) (s.voted x);
+  voted_indexed = s.voted_indexed;
   readers_are = s.readers_are ∙ (ap (λ d. filter (λ (p : ReaderOf). before d p.ver) (readers h)) (sym same.dropped_is)
       ∙ ap (filter (λ (p : ReaderOf). before (dropped h') p.ver)) (sym reads));
   keys_rise = s.keys_rise;
   keys_have = s.keys_have;
   touched_rise = s.touched_rise;
   quiet = λ p i e. told_same firsts h h' p same (s.quiet p i e);
+  below = λ p i e. told_same firsts h h' p same (s.below p i e);
   whole = s.whole;
 }
 

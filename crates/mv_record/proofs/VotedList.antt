@@ -4,7 +4,7 @@ use Rattle.std.specs.Prelude.{not, map, filter, is_none}
 use Rattle.protocol.specs.Words.{Version, Exec, Content, Kept, Body, Prepare, before, same_exec}
 use Rattle.protocol.specs.Lists.{IsIn, one_when}
 use Rattle.protocol.specs.Replica.Taken.{Handled, dropped}
-use Rattle.protocol.specs.Replica.Acceptor.{decided, commits}
+use Rattle.protocol.specs.Replica.Acceptor.{decided}
 use Rattle.protocol.specs.Replica.Votes.{Cast, casts, cast_on, new_cast, may_vote, verdict, is_commit_vote}
 use Rattle.protocol.specs.Replica.Says.{voted_upto}
 use Rattle.protocol.proofs.TestLemmas.{and_left, and_right}

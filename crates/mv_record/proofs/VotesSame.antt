@@ -91,6 +91,14 @@ is_none_of : {A : Type 0} (o : Option A) → is_none o ≡ true → o ≡ None
 is_none_of None e = refl
 is_none_of (Some a) e = absurd cc
 
+-- without a vote there is no content with one
+pub unvoted_content : (h : Handled) (y : Exec) → vote h y ≡ None → voted_content h y ≡ None
+unvoted_content h y e = go (cast_on y (casts h)) e
+  where
+    go : (o : Option Cast) → option_map (λ (z : Cast). z.vote) o ≡ None → standing_vote h y o ≡ None
+    go None e = refl
+    go (Some z) e = absurd cc
+
 -- who may vote had no vote
 no_cast : (h : Handled) (y : Exec) → may_vote h (casts h) y ≡ true → cast_on y (casts h) ≡ None
 unfolding may_vote

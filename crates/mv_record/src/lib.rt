@@ -3,11 +3,12 @@
 //!
 //! `specs/Records` says when records stand for the envelopes that a replica took, and when their readers were told
 //! what they see; `specs/Clash` with what a content conflicts. In `proofs`, `Unseen` shows which envelopes change
-//! nothing, `Quiet` that readers of keys that are not listed were told what they see, `VotesSame` what becomes of
+//! nothing, `Quiet` that readers of keys that are not listed, or below what changed, were told what they see, `VotesSame` what becomes of
 //! votes, `Reading`, `Told` and `Settling` what becomes of readers and their marks, and `Cutting` what a Drop leaves.
 #![tactic(auto)]
 
 mod clash;
+mod readers;
 mod records;
 mod touched;
 

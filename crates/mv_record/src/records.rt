@@ -1,4 +1,4 @@
-//! The records of a replica, call by call.
+//! The records of a replica: what it holds, call by call.
 
 ghost use Rattle.std.specs.Prelude.{◌≡◌, ℕ, ◌<◌, ◌≤◌, ◌∷◌, ◌||◌, not, [], true, cond, length, map, filter, Option, slice_get, slice_set, slice_index_or, Some, None, IfOk, OnOk, OnErr, IsErr, IsTrue};
 ghost use Rattle.std.specs.List.{list_any};
@@ -15,17 +15,17 @@ ghost use Rattle.protocol.specs.Replica.Acceptor.{decided};
 ghost use Rattle.protocol.specs.Replica.Votes.{vote};
 ghost use Rattle.protocol.specs.Replica.Held.{latest, held, kept_put};
 ghost use Rattle.protocol.specs.Replica.Says.{committed_upto, voted_upto};
-ghost use Rattle.mv_index.specs.WriteIndex.{writes_key};
+ghost use Rattle.protocol.specs.Replica.Votes.{writes_key};
 ghost use Rattle.mv_index.specs.Holdings.{StandsFor as HoldingsStandFor};
 ghost use Rattle.mv_index.specs.KeyList.{AreRising, Lists};
 ghost use Rattle.mv_index.specs.HeldByExec.{kept_writes};
 ghost use Rattle.mv_index.specs.ReaderList.{prefix, put_marked, told_at};
 
 use crate::clash::Clash;
-use crate::touched::{either, listed_keys, touch, touch_kept};
+use crate::touched::{earlier, touch, touch_kept};
 use morty_base::{Exec, Key, List, NoMemory, Version, Wid, is_before};
 use msg::{BaseEntry, Content, Kept, Write};
-use mv_index::{ContentTable, Holdings, KeyList, Reader, ReaderList, tell_keys};
+use mv_index::{ContentTable, Holdings, KeyList, ReaderList};
 use protocol::{First2, Held};
 use std::alloc::Global;
 
@@ -38,13 +38,19 @@ pub struct Records {
     pub(crate) reader_keys: KeyList,
     pub(crate) touched: KeyList,
     pub(crate) all_touched: bool,
+    pub(crate) low: Version,
     pub(crate) broken: bool,
 }
 
+/// No version is above it.
+pub(crate) const LAST: Version = Version {
+    ts: u64::MAX,
+    client: u32::MAX,
+};
+
 impl Records {
     ghost use Rattle.mv_record.specs.Clash.{clash_of};
-    ghost use Rattle.mv_record.specs.Records.{StandsFor, WereTold, listed, is_broken, readers_of};
-    ghost use Rattle.mv_index.specs.declared.reader_list.Reader.{Reader as MarkedReader};
+    ghost use Rattle.mv_record.specs.Records.{StandsFor, WereTold, is_broken};
     ghost use Rattle.protocol.specs.Lists.{IsIn};
 
     /// Nothing came yet.
@@ -52,12 +58,13 @@ impl Records {
         ensures { IfOk result (λ r. StandsFor firsts [] r × WereTold firsts [] r) }
     {
         Ok(Records {
-            holdings: Holdings::new(alloc, firsts),
+            holdings: Holdings::new(alloc, firsts.as_slice())?,
             voted: ContentTable::new(alloc),
             readers: ReaderList::new(alloc),
             reader_keys: KeyList::new(alloc),
             touched: KeyList::new(alloc),
             all_touched: false,
+            low: LAST,
             broken: false,
         })
     }
@@ -91,6 +98,7 @@ impl Records {
         self.broken = true;
         touch_kept(&mut self.touched, &self.holdings, exec.ver)?;
         touch(&mut self.touched, writes)?;
+        self.low = earlier(self.low, exec.ver);
         self.holdings.put(alloc, exec, writes)?;
         self.broken = false;
         Ok(())
@@ -110,6 +118,7 @@ impl Records {
         self.broken = true;
         touch_kept(&mut self.touched, &self.holdings, exec.ver)?;
         touch(&mut self.touched, content.writes.as_slice())?;
+        self.low = earlier(self.low, exec.ver);
         self.holdings.commit(alloc, exec, content)?;
         self.voted.remove(exec);
         self.broken = false;
@@ -128,6 +137,7 @@ impl Records {
         }
         self.broken = true;
         touch_kept(&mut self.touched, &self.holdings, exec.ver)?;
+        self.low = earlier(self.low, exec.ver);
         self.holdings.abandon(exec)?;
         self.voted.remove(exec);
         self.broken = false;
@@ -136,6 +146,7 @@ impl Records {
 
     /// The vote on an execution is Commit.
     pub fn voted(&mut self, alloc: Global, exec: Exec, content: &Content) -> Result<(), NoMemory>
+        requires { length content.now.writes ≤ 4294967295 }
         ensures ok { (firsts : List FirstValue) (h : Handled) (from to : NodeValue) → let after = record { from = from; to = to; body = Prepare exec content.now } ∷ h in StandsFor firsts h self.old → before (dropped h) exec.ver ≡ true → vote h exec ≡ None → vote after exec ≡ Some CommitVote → OnOk result (StandsFor firsts after self.new) }
         ensures marks { (firsts : List FirstValue) (h : Handled) → WereTold firsts h self.old → OnOk result (WereTold firsts h self.new) }
         ensures broken { IsTrue (is_broken self.old) → IsErr result }
@@ -170,108 +181,6 @@ impl Records {
         self.holdings.holds(key, wid)
     }
 
-    /// A reader is added, whose mark is to follow.
-    pub fn read_by(&mut self, key: Key, ver: Version) -> Result<(), NoMemory>
-        ensures ok { (firsts : List FirstValue) (h : Handled) (from to : NodeValue) (eid : ℕ) → StandsFor firsts h self.old → before (dropped h) ver ≡ true → OnOk result (StandsFor firsts (record { from = from; to = to; body = Get (record { ver = ver; eid = eid }) key } ∷ h) self.new) }
-        ensures readers { (firsts : List FirstValue) (h : Handled) → StandsFor firsts h self.old → OnOk result (readers_of self.new ≡ put_marked (record { key = key; ver = ver; told = None }) (readers_of self.old)) }
-        ensures broken { IsTrue (is_broken self.old) → IsErr result }
-        ensures breaks { OnErr result (IsTrue (is_broken self.new)) }
-    {
-        if self.broken {
-            return Err(NoMemory);
-        }
-        self.broken = true;
-        self.reader_keys.add(key)?;
-        self.touched.add(key)?;
-        self.readers.add(key, ver)?;
-        self.broken = false;
-        Ok(())
-    }
-
-    /// How many readers there are.
-    pub fn reader_count(&self) -> usize
-        ensures { result ≡ length (readers_of self.now) }
-    {
-        self.readers.count()
-    }
-
-    /// A reader, in rising order of key and version.
-    pub fn reader(&self, i: usize) -> Reader
-        requires { i < length (readers_of self.now) }
-        ensures { slice_get (readers_of self.now) i ≡ Some result }
-    {
-        self.readers.get(i)
-    }
-
-    /// The readers of a key.
-    pub fn readers_of(&self, key: Key) -> &[Reader]
-        ensures { (firsts : List FirstValue) (h : Handled) → StandsFor firsts h self.now → result.now ≡ filter (λ r. same_key key r.key) (readers_of self.now) }
-    {
-        self.readers.of_key(key)
-    }
-
-    /// A key of which a mark changes is listed: where it was not, all keys with a reader are.
-    pub fn told(&mut self, i: usize, held: Held)
-        requires { i < length (readers_of self.old) }
-        ensures stands { (firsts : List FirstValue) (h : Handled) → StandsFor firsts h self.old → StandsFor firsts h self.new }
-        ensures mark { (d : MarkedReader) → readers_of self.new ≡ slice_set (readers_of self.old) i (record (slice_index_or (readers_of self.old) i d) { told = Some held }) }
-    {
-        let reader = self.readers.get(i);
-        let listed = self.touched.has(reader.key);
-        self.all_touched = either(self.all_touched, listed);
-        self.readers.tell(i, held);
-    }
-
-    /// What the reader of a key at a version was told now; no other mark changes.
-    pub fn mark(&mut self, key: Key, ver: Version, held: Held)
-        ensures stands { (firsts : List FirstValue) (h : Handled) → StandsFor firsts h self.old → StandsFor firsts h self.new }
-        ensures mark { (firsts : List FirstValue) (h : Handled) → StandsFor firsts h self.old → readers_of self.new ≡ map (told_at key ver held) (readers_of self.old) }
-    {
-        let listed = self.touched.has(key);
-        self.all_touched = either(self.all_touched, listed);
-        self.readers.mark(key, ver, held);
-    }
-
-    /// How many keys are listed.
-    pub fn touched_count(&self) -> usize
-        ensures { result ≡ length (listed self.now) }
-    {
-        if self.all_touched {
-            self.reader_keys.len()
-        } else {
-            self.touched.len()
-        }
-    }
-
-    /// A key that is listed.
-    pub fn touched_key(&self, i: usize) -> Key
-        requires { i < length (listed self.now) }
-        ensures { slice_get (listed self.now) i ≡ Some result }
-    {
-        if self.all_touched {
-            self.reader_keys.get(i)
-        } else {
-            self.touched.get(i)
-        }
-    }
-
-    /// Each reader of a listed key was told what it sees, and no key is listed any more.
-    pub fn settle(&mut self)
-        ensures { (firsts : List FirstValue) (h : Handled) → StandsFor firsts h self.old → StandsFor firsts h self.new × WereTold firsts h self.new × (listed self.new ≡ []) }
-    {
-        let keys = listed_keys(self.all_touched, &self.reader_keys, &self.touched);
-        tell_keys(&mut self.readers, &self.holdings, keys);
-        self.all_touched = false;
-        self.touched.clear();
-    }
-
-    /// How many readers are of keys below this one.
-    pub fn first_reader(&self, key: Key) -> usize
-        ensures { (firsts : List FirstValue) (h : Handled) → StandsFor firsts h self.now → result ≡ prefix (λ r. key_before r.key key) (readers_of self.now) }
-    {
-        self.readers.first_of(key)
-    }
-
     /// Everything at or below a version goes; the base takes its place.
     pub fn cut(&mut self, w: Version, base: List<BaseEntry>)
         requires { IsRisingBy (λ a b. key_before a.key b.key) base }
@@ -282,6 +191,7 @@ impl Records {
         self.voted.cut(w);
         self.readers.cut(w);
         self.all_touched = true;
+        self.low = Version { ts: 0, client: 0 };
     }
 
     /// The committed contents at or below a version, above the dropped one, in rising order of execution.

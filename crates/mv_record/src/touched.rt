@@ -8,9 +8,10 @@ ghost use Rattle.morty_base.specs.Names.{before};
 ghost use Rattle.mv_index.specs.Holdings.{StandsFor as HoldingsStandFor};
 ghost use Rattle.mv_index.specs.HeldByExec.{kept_writes};
 ghost use Rattle.mv_index.specs.KeyList.{AreRising, Lists};
-ghost use Rattle.mv_index.specs.WriteIndex.{writes_key};
+ghost use Rattle.protocol.specs.Replica.Votes.{writes_key};
+ghost use Rattle.mv_record.specs.Records.{earlier as earlier_of};
 
-use morty_base::{Key, NoMemory, Version};
+use morty_base::{Key, NoMemory, Version, is_before};
 use msg::Write;
 use mv_index::{Holdings, KeyList};
 
@@ -18,6 +19,13 @@ pub(crate) fn either(all: bool, listed: bool) -> bool
     ensures { result ≡ (all || not listed) }
 {
     all || !listed
+}
+
+/// The earlier of two versions.
+pub(crate) fn earlier(low: Version, ver: Version) -> Version
+    ensures { result ≡ earlier_of low ver }
+{
+    if is_before(ver, low) { ver } else { low }
 }
 
 /// The keys that are listed: once all may have changed, each key with a reader.

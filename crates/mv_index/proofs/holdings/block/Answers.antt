@@ -1,7 +1,8 @@
 use Rattle.std.proofs.Common.{◌∙◌, cond, None, ap, sym, ◌&&◌, arith}
 use Rattle.std.proofs.lemmas.Bool.Decides.{nat_tests}
 use Rattle.protocol.specs.Words.{same_exec}
-use Rattle.mv_index.specs.WriteIndex.{held_at, writes_key}
+use Rattle.mv_index.specs.WriteIndex.{held_at}
+use Rattle.protocol.specs.Replica.Votes.{writes_key}
 use Rattle.mv_index.specs.PutTable.{put_of}
 use Rattle.mv_index.proofs.AbandonTurn.{block_erased, block_kept, block_none}
 use Rattle.mv_index.proofs.holdings.block.Goals as goal

@@ -1,6 +1,7 @@
 use Rattle.std.proofs.Common.{◌∙◌, cond, None, ap, sym, ◌&&◌}
 use Rattle.protocol.specs.Words.{same_exec}
-use Rattle.mv_index.specs.WriteIndex.{held_at, writes_key}
+use Rattle.mv_index.specs.WriteIndex.{held_at}
+use Rattle.protocol.specs.Replica.Votes.{writes_key}
 use Rattle.mv_index.specs.PutTable.{put_of}
 use Rattle.mv_index.proofs.PutsTurn.{cleared, cleared_none}
 use Rattle.mv_index.proofs.holdings.clear.Goals as goal

@@ -1,5 +1,5 @@
 use Rattle.std.proofs.Common.{take}
-use Rattle.mv_index.specs.WriteIndex.{writes_key}
+use Rattle.protocol.specs.Replica.Votes.{writes_key}
 use Rattle.mv_index.specs.KeyList.{AreRising, Lists}
 use Rattle.mv_record.proofs.touched.touch.Given as goal
 

@@ -14,8 +14,8 @@ returns c = λ firsts h s.
     let committed = commit_clash h (content_at c.args.self.now.commits) (record {
       ver = v;
       eid = 0;
-    }) k c.conflicts-committed.result s.commits_are c.conflicts-committed.ensures in
-    let based = c.conflicts_with_base-based.ensures ∙ ap (λ (bs : List BaseEntry). list_any (conflicts_with_base v k) bs) (c.as_slice.ensures ∙ s.base_is) in
+    }) k c.conflicts-committed.result s.commits_are (c.conflicts-committed.ensures s.commits_indexed) in
+    let based = c.conflicts-based.ensures ∙ ap (λ (bs : List BaseEntry). list_any (conflicts_with_base v k) bs) s.base_is in
     c.or.ensures
-    ∙ (ap (λ t. t || c.conflicts_with_base-based.result) committed
+    ∙ (ap (λ t. t || c.conflicts-based.result) committed
     ∙ ap (λ t. list_any (clashes_with_commit h (record { ver = v; eid = 0 }) k) (commits h) || t) based)

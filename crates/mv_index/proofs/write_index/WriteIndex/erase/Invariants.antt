@@ -1,6 +1,7 @@
 use Rattle.std.proofs.Common.{◌≡◌, ◌&&◌, None, cond, take}
 use Rattle.protocol.specs.Words.{Exec, Key, same_exec}
-use Rattle.mv_index.specs.WriteIndex.{held_at, writes_key}
+use Rattle.mv_index.specs.WriteIndex.{held_at}
+use Rattle.protocol.specs.Replica.Votes.{writes_key}
 use Rattle.mv_index.proofs.write_index.WriteIndex.erase.Given as goal
 
 abbrev pub invariant-loop-write : goal.invariant-loop-write

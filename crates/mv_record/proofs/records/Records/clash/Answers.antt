@@ -11,9 +11,9 @@ returns-then-conflicts c = λ firsts h s. clash_committed h c.args.ver c.args.co
 pub returns-then-conflicts-2 : goal.returns-then-conflicts-2
 returns-then-conflicts-2 c = λ firsts h s.
     clash_voted h c.args.ver c.args.content.now _ _ true Voted (c.conflicts.ensures firsts h s.holdings) c.if-conflicts.false (vote_clash h
-    (content_at c.args.self.now.voted) (at_version c.args.ver) c.args.content.now _ s.voted c.conflicts-2.ensures) c.if-conflicts-2.true refl
+    (content_at c.args.self.now.voted) (at_version c.args.ver) c.args.content.now _ s.voted (c.conflicts-2.ensures s.voted_indexed)) c.if-conflicts-2.true refl
 
 pub returns : goal.returns
 returns c = λ firsts h s.
     clash_voted h c.args.ver c.args.content.now _ _ false Clear (c.conflicts.ensures firsts h s.holdings) c.if-conflicts.false (vote_clash h
-    (content_at c.args.self.now.voted) (at_version c.args.ver) c.args.content.now _ s.voted c.conflicts-2.ensures) c.if-conflicts-2.false refl
+    (content_at c.args.self.now.voted) (at_version c.args.ver) c.args.content.now _ s.voted (c.conflicts-2.ensures s.voted_indexed)) c.if-conflicts-2.false refl

@@ -9,6 +9,7 @@ pub returns : goal.returns
 returns c = λ firsts h s.
     let r = c.args.self.now in
     let rs = r.readers.readers.items in
-    settle_stands firsts h r c.tell_keys.new.readers c.clear.new.self s
-    (c.tell_keys.ensures firsts h s.holdings (in_order h rs s.readers_are) ∙ ap (λ ks. map (told_in (latest firsts h) ks) rs) c.listed_keys-keys.ensures)
+    settle_stands firsts h r c.tell_keys.new.readers c.clear.new.self _ s
+    (c.tell_keys.ensures firsts h s.holdings (in_order h rs s.readers_are) s.below
+    ∙ ap (λ ks. map (told_in (latest firsts h) ks) rs) c.listed_keys-keys.ensures)
     c.clear.ensures
