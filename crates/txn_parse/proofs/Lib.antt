@@ -14,3 +14,9 @@ pub mod OneFault
 pub mod WideLimits
 pub mod FreeBlocks
 pub mod FaultIsDecided
+pub mod NamesLemmas
+pub mod RawTrees
+pub mod BodyLemmas
+pub mod BoundForm
+pub mod BoundPrograms
+pub mod ResolveLemmas

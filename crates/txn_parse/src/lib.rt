@@ -1,4 +1,5 @@
-//! The blocks of programs, read from tokens by the grammar: a tree that still has the text's tokens, or the one fault.
+//! The blocks of programs, read from tokens by the grammar: a tree that still has the text's tokens, or the one fault;
+//! and the program that such a tree stands for, by its names.
 //!
 //! The definitions, in the order in which they build on each other: the symbol of a token (`Symbols`), trees with tokens
 //! (`Tree`), an expression while it is read (`Pending`), the grammar (`Grammar`), reading from left to right (`Reading`),
@@ -12,13 +13,21 @@
 //! `CompleteBlocks`). Both give the laws of whole blocks (`Laws`). A block is within the limits just where its counts
 //! are (`CountsLemmas`), a list has one fault at most (`OneFault`), and a reader without limits (`FreeBlocks`), whose
 //! limits are as wide as the list (`WideLimits`), decides whether it has one (`FaultIsDecided`).
+//!
+//! Names: they keep their places while a list of them grows (`NamesLemmas`), and a statement goes on the list of those
+//! before it (`RawTrees`, `BodyLemmas`). What the grammar says of a block's tokens (`BoundForm`) makes the program of a
+//! block whose checks pass well formed and, where no limit is passed, one within the limits (`BoundPrograms`), so the
+//! fault is that of the first check (`ResolveLemmas`).
 #![tactic(auto)]
 
 mod blocks;
+mod bodies;
 mod expressions;
 mod limits;
+mod names;
 mod pending;
 mod program;
+mod resolve;
 mod statements;
 mod symbols;
 mod tokens;
@@ -27,6 +36,7 @@ mod tree;
 pub use blocks::read_block;
 pub use limits::first_past;
 pub use program::{fault_laws, grammar_laws, last_line, parse_prog};
+pub use resolve::resolve_prog;
 pub use statements::separator;
 pub use symbols::{Symbol, is, symbol_of};
 pub use tokens::{syntax, take};
