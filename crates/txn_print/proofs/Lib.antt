@@ -1,2 +1,4 @@
 pub mod PrinterLemmas
 pub mod CountLemmas
+pub mod LaidLemmas
+pub mod LineLemmas

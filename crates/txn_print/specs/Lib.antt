@@ -1,4 +1,5 @@
 pub mod Piece
 pub mod Printer
 pub mod Canonical
+pub mod Spelling
 pub mod Laws

@@ -1,5 +1,5 @@
 -- The pieces of canonical text, and the rule of blanks between them.
-use Rattle.std.specs.Prelude.{ℕ, Bool, true, false, ◌||◌, List, [], ◌∷◌, ◌++◌, codes, decimal, if◌then◌else◌}
+use Rattle.std.specs.Prelude.{ℕ, Bool, true, false, ◌||◌, List, [], ◌∷◌, ◌++◌, flat_map, codes, decimal, if◌then◌else◌}
 use Rattle.morty_base.specs.ScriptNames.{is_one_of}
 
 -- a reserved word, a name, a number, a symbol, or the sign of what is negated
@@ -48,3 +48,7 @@ text_of joined (piece ∷ pieces) = gap (joined || is_close piece) ++ bytes_of p
 -- the text of pieces that begin a line
 abbrev pub line_text : List Piece → List ℕ
 line_text pieces = text_of true pieces
+
+-- the text of lines, each ended by a line feed
+abbrev pub lines_text : List (List Piece) → List ℕ
+lines_text lines = flat_map (λ pieces. line_text pieces ++ 10 ∷ []) lines

@@ -15,3 +15,8 @@ printed p (piece ∷ pieces) = printed (with_piece p piece) pieces
 -- the end of a line
 unfoldable pub with_line : Printer → Printer
 with_line p = record { text = p.text ++ 10 ∷ []; joined = true }
+
+-- these lines, in order
+abbrev pub lines_printed : Printer → List (List Piece) → Printer
+lines_printed p [] = p
+lines_printed p (line ∷ lines) = lines_printed (with_line (printed p line)) lines

@@ -5,7 +5,7 @@
 //! printer holds (`Printer`), the pieces of expressions, statements and programs (`Canonical`), and the laws (`Laws`).
 //!
 //! The proof: a printer that is handed pieces in several calls holds what it holds of all of them in order, and its text
-//! goes on by theirs (`PrinterLemmas`); an expression's pieces are those that its limit counts (`CountLemmas`).
+//! goes on by theirs (`PrinterLemmas`), line by line (`LineLemmas`); an expression's pieces are those that its limit counts (`CountLemmas`).
 #![tactic(auto)]
 
 mod expressions;
@@ -14,6 +14,7 @@ mod printer;
 mod program;
 mod statements;
 
+pub use expressions::print_name;
 pub use laws::pieces_are_counted;
 pub use printer::Printer;
 pub use program::{print_block, prog_text};

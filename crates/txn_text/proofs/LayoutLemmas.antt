@@ -42,7 +42,7 @@ run_of : (p : ℕ → Bool) (xs rest : List ℕ) → list_all p xs ≡ true → 
 run_of p xs rest all stops = ap (λ n. take n (xs ++ rest)) (run_len p xs rest all stops) ∙ take_at xs rest (length xs) refl
 
 -- what is one of some words passes a test that they all pass
-one_passes : (good : List ℕ → Bool) (words : List (List ℕ)) (bytes : List ℕ) → list_all good words ≡ true → is_one_of words bytes ≡ true → good bytes ≡ true
+pub one_passes : (good : List ℕ → Bool) (words : List (List ℕ)) (bytes : List ℕ) → list_all good words ≡ true → is_one_of words bytes ≡ true → good bytes ≡ true
 one_passes good [] bytes all one = cc
 one_passes good (w ∷ ws) bytes all one =
     let parts = and_parts (good w) (list_all good ws) all in
