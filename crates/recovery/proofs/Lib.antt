@@ -1,4 +1,5 @@
 pub mod RoundLemmas
+pub mod PlacesLemmas
 pub mod StateLemmas
 pub mod HearingLemmas
 pub mod RecovererLemmas

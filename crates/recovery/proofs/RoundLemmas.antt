@@ -1,51 +1,38 @@
--- Where the round of an execution in a view stands, and what a write there leaves.
-use Rattle.std.proofs.Common.{◌≡◌, ℕ, ◌+◌, ◌<◌, Bool, true, false, cond, not, Option, Some, None, List, [], ◌∷◌, length, get_or, suc, set, refl, ap, ◌∙◌, sym, arith}
-use Rattle.std.specs.Prelude.{nat_lt, find, position}
-use Rattle.std.specs.List.{position_or_len, slice_get}
-use Rattle.std.proofs.lemmas.Bool.Decides.{nat_tests}
-use Rattle.std.proofs.lemmas.List.Folds.{find_at}
-use Rattle.std.proofs.lemmas.Option.{slice_get-get_or, slice_get_past}
+-- The round of an execution in a view, and what is left where it is replaced.
+use Rattle.std.proofs.Common.{◌≡◌, ℕ, Bool, true, false, cond, Some, List, [], ◌∷◌, refl, ap, ◌∙◌, sym}
 use Rattle.protocol.specs.Words.{Exec}
 use Rattle.protocol.specs.Warden.State.{Round}
 use Rattle.protocol.specs.Warden.Recovery.{round_of, with_round}
 use Rattle.recovery.specs.Round.{is_of}
 
-place_is : {A : Type 0} (p : A → Bool) (xs : List A) (i : ℕ) → position p xs ≡ Some i → (position_or_len p xs ≡ i) × (i < length xs)
-place_is p xs i e = go (nat_lt (position_or_len p xs) (length xs)) refl e
+-- the round that is found is of the execution and in the view
+pub found_is_of : (x : Exec) (v : ℕ) (rounds : List Round) (a : Round) → round_of x v rounds ≡ Some a → is_of x v a ≡ true
+found_is_of x v [] a e = absurd (cc)
+found_is_of x v (b ∷ older) a e = go (is_of x v b) refl (λ h. found_is_of x v older a h) e
   where
-    go : (b : Bool) → nat_lt (position_or_len p xs) (length xs) ≡ b → cond b (Some (position_or_len p xs)) None ≡ Some i → (position_or_len p xs ≡ i) × (i < length xs)
-    go true t h = let k : position_or_len p xs ≡ i = cc in (k, grind (arith, nat_tests))
-    go false t h = absurd (cc)
+    go : (t : Bool) → is_of x v b ≡ t → (round_of x v older ≡ Some a → is_of x v a ≡ true) → cond t (Some b) (round_of x v older) ≡ Some a → is_of x v a ≡ true
+    go true is ih h = let same : b ≡ a = cc in ap (is_of x v) (sym same) ∙ is
+    go false is ih h = ih h
 
-no_place : {A : Type 0} (p : A → Bool) (xs : List A) → position p xs ≡ None → find p xs ≡ None
-no_place p xs e = go (nat_lt (position_or_len p xs) (length xs)) refl e
+-- a round that was put in its place is found there
+pub put_is_found : (x : Exec) (v : ℕ) (rounds : List Round) (a new : Round) → round_of x v rounds ≡ Some a → is_of x v new ≡ true →
+    round_of x v (with_round x v new rounds) ≡ Some new
+put_is_found x v [] a new e n = absurd (cc)
+put_is_found x v (b ∷ older) a new e n = go (is_of x v b) refl (λ h. put_is_found x v older a new h n) e
   where
-    go : (b : Bool) → nat_lt (position_or_len p xs) (length xs) ≡ b → cond b (Some (position_or_len p xs)) None ≡ None → find p xs ≡ None
-    go true t h = absurd (cc)
-    go false t h = find_at p xs ∙ slice_get_past xs (position_or_len p xs) (grind (arith, nat_tests))
+    go : (t : Bool) → is_of x v b ≡ t → (round_of x v older ≡ Some a → round_of x v (with_round x v new older) ≡ Some new) → cond t (Some b) (round_of x v older) ≡ Some a →
+        round_of x v (cond t (new ∷ older) (b ∷ with_round x v new older)) ≡ Some new
+    go true is ih h = ap (λ t. cond t (Some new) (round_of x v older)) n
+    go false is ih h = ap (λ t. cond t (Some b) (round_of x v (with_round x v new older))) is ∙ ih h
 
-pub round_absent : (x : Exec) (v : ℕ) (rounds : List Round) → position (is_of x v) rounds ≡ None → round_of x v rounds ≡ None
-round_absent x v rounds e = no_place (is_of x v) rounds e
-
-pub round_found : (x : Exec) (v : ℕ) (rounds : List Round) (i : ℕ) (a : Round) → position (is_of x v) rounds ≡ Some i → a ≡ get_or rounds i a → round_of x v rounds ≡ Some a
-round_found x v rounds i a e h =
-    let k = place_is (is_of x v) rounds i e in
-    find_at (is_of x v) rounds ∙ ap (λ j. slice_get rounds j) k.0 ∙ slice_get-get_or rounds i a k.1 ∙ ap (λ (b : Round). Some b) (sym h)
-
-put_at : (x : Exec) (v : ℕ) (new : Round) (rounds : List Round) → position_or_len (is_of x v) rounds < length rounds
-    → with_round x v new rounds ≡ set rounds (position_or_len (is_of x v) rounds) new
-put_at x v new [] h = absurd (omega arith)
-put_at x v new (a ∷ rounds) h = go (is_of x v a) (put_at x v new rounds) h
+-- of two rounds that are put in one place the later one stays
+pub put_twice : (x : Exec) (v : ℕ) (rounds : List Round) (new last : Round) → is_of x v new ≡ true →
+    with_round x v last (with_round x v new rounds) ≡ with_round x v last rounds
+put_twice x v [] new last n = refl
+put_twice x v (b ∷ older) new last n = go (is_of x v b) refl (put_twice x v older new last n)
   where
-    go : (b : Bool) → (position_or_len (is_of x v) rounds < length rounds → with_round x v new rounds ≡ set rounds (position_or_len (is_of x v) rounds) new) → cond (not b) (1 + position_or_len (is_of x v) rounds) 0 < length (a ∷ rounds)
-        → cond b (new ∷ rounds) (a ∷ with_round x v new rounds) ≡ set (a ∷ rounds) (cond (not b) (1 + position_or_len (is_of x v) rounds) 0) new
-    go true ih l = refl
-    go false ih l = let next : suc (position_or_len (is_of x v) rounds) ≡ 1 + position_or_len (is_of x v) rounds = omega arith in ap (λ rs. a ∷ rs) (ih (omega arith)) ∙ ap (λ k. set (a ∷ rounds) k new) next
-
-pub round_put_at : (x : Exec) (v : ℕ) (new : Round) (rounds : List Round) (i : ℕ) → position (is_of x v) rounds ≡ Some i → with_round x v new rounds ≡ set rounds i new
-round_put_at x v new rounds i e =
-    let k = place_is (is_of x v) rounds i e in
-    put_at x v new rounds (omega (arith, k.0, k.1)) ∙ ap (λ j. set rounds j new) k.0
-
-pub place_by : (x : Exec) (v : ℕ) (xs rounds : List Round) (r o : Option ℕ) → r ≡ position (is_of x v) xs → xs ≡ rounds → r ≡ o → position (is_of x v) rounds ≡ o
-place_by x v xs rounds r o e f g = sym (e ∙ ap (λ rs. position (is_of x v) rs) f) ∙ g
+    go : (t : Bool) → is_of x v b ≡ t → with_round x v last (with_round x v new older) ≡ with_round x v last older →
+        with_round x v last (cond t (new ∷ older) (b ∷ with_round x v new older)) ≡ cond t (last ∷ older) (b ∷ with_round x v last older)
+    go true is ih = ap (λ t. cond t (last ∷ older) (new ∷ with_round x v last older)) n
+    go false is ih = ap (λ t. cond t (last ∷ with_round x v new older) (b ∷ with_round x v last (with_round x v new older))) is
+        ∙ ap (λ rs. b ∷ rs) ih

@@ -1,18 +1,18 @@
 -- What the code does at each end of a handling is the turn of the definitions.
-use Rattle.std.proofs.Common.{◌≡◌, ℕ, ◌+◌, ◌<◌, ◌≤◌, Bool, true, false, cond, not, nat_le, Option, Some, None, List, [], ◌∷◌, ◌++◌, suc, length, get_or, set, refl, MatchOption, ◌*◌, ap, ◌∙◌, sym, subst, arith, length-append}
-use Rattle.std.specs.Prelude.{is_some, ◌==◌, ◌&&◌, position, flat_map}
+use Rattle.std.proofs.Common.{◌≡◌, ℕ, ◌+◌, ◌<◌, ◌≤◌, Bool, true, false, cond, not, nat_le, Option, Some, None, List, [], ◌∷◌, ◌++◌, suc, length, refl, MatchOption, ◌*◌, ap, ◌∙◌, sym, subst, arith, length-append}
+use Rattle.std.specs.Prelude.{is_some, ◌==◌, ◌&&◌, flat_map}
 use Rattle.std.specs.List.{list_any}
 use Rattle.std.proofs.lemmas.Bool.Decides.{nat_tests}
-use Rattle.std.proofs.lemmas.List.{append-nil, set-get_or}
+use Rattle.std.proofs.lemmas.List.{append-nil}
 use Rattle.protocol.specs.Words.{Exec, Warden, Envelope, Body, Finalize, Decide, Ask}
 use Rattle.protocol.specs.Quorums.{quorum}
 use Rattle.protocol.specs.Warden.State.{DecidedProposal, Proposal, Round, ToldAnswer, WardenRules, WardenState, WardenTurn, still}
 use Rattle.protocol.specs.Warden.State.Parcel.{To_all}
 use Rattle.protocol.specs.Warden.Recovery.{recover, next_view, take_told, take_accept, count_accept, proposes, decides, fixed, used, to_client, with_told, with_proposal, with_accept, round_of, round_put, with_round}
 use Rattle.protocol.specs.World.Events.{to_all, parcel}
-use Rattle.recovery.specs.Round.{last_view, is_of, counts_told, counts_accept, accepted_by}
+use Rattle.recovery.specs.Round.{last_view, counts_told, counts_accept, accepted_by}
 use Rattle.recovery.specs.Recoverer.{TakesTurn}
-use Rattle.recovery.proofs.RoundLemmas.{round_absent, round_found, round_put_at}
+use Rattle.recovery.proofs.RoundLemmas.{found_is_of, put_is_found, put_twice}
 
 -- a warden with these rounds and decisions
 abbrev pub bare : List Round → List DecidedProposal → WardenState
@@ -61,47 +61,57 @@ told_taken r s x v t a b e f =
     ∙ ap (λ b. cond b (proposes s x v (with_told a t)) (still (round_put s x v (with_told a t)))) f
 
 module _ (r : WardenRules) (rounds : List Round) (ds : List DecidedProposal) (x : Exec) (v : ℕ) where
-  pub told_unasked : (t : ToldAnswer) (before : List Envelope) → position (is_of x v) rounds ≡ None
+  pub told_unasked : (t : ToldAnswer) (before : List Envelope) → round_of x v rounds ≡ None
       → TakesTurn r (take_told r (bare rounds ds) x v t (round_of x v rounds)) (bare rounds ds) before before
   unfolding take_told
   told_unasked t before e =
-      unmoved r _ (bare rounds ds) (bare rounds ds) before (ap (λ o. take_told r (bare rounds ds) x v t o) (round_absent x v rounds e)) refl
+      unmoved r _ (bare rounds ds) (bare rounds ds) before (ap (λ o. take_told r (bare rounds ds) x v t o) e) refl
 
-  module _ (i : ℕ) (a : Round) (found : position (is_of x v) rounds ≡ Some i) (here : a ≡ get_or rounds i a) where
-    same_rounds : set rounds i a ≡ rounds
-    same_rounds = ap (λ b. set rounds i b) here ∙ set-get_or rounds i a
-
+  module _ (a : Round) (found : round_of x v rounds ≡ Some a) where
     told_is : (t : ToldAnswer) → take_told r (bare rounds ds) x v t (round_of x v rounds) ≡ take_told r (bare rounds ds) x v t (Some a)
-    told_is t = ap (λ o. take_told r (bare rounds ds) x v t o) (round_found x v rounds i a found here)
+    told_is t = ap (λ o. take_told r (bare rounds ds) x v t o) found
+
+    -- with one more Told the round is that one
+    pub told_put : (t : ToldAnswer) (rounds' : List Round) → rounds' ≡ with_round x v (with_told a t) rounds → round_of x v rounds' ≡ Some (with_told a t)
+    told_put t rounds' e = ap (round_of x v) e ∙ put_is_found x v rounds a (with_told a t) found (found_is_of x v rounds a found)
 
     pub told_ignored : (t : ToldAnswer) (before : List Envelope) → counts_told a t.replica ≡ false
-        → TakesTurn r (take_told r (bare rounds ds) x v t (round_of x v rounds)) (bare (set rounds i a) ds) before before
+        → TakesTurn r (take_told r (bare rounds ds) x v t (round_of x v rounds)) (bare rounds ds) before before
     told_ignored t before e =
-        unmoved r _ (bare rounds ds) _ before (told_is t ∙ told_refused r (bare rounds ds) x v t a e) (ap (λ rs. bare rs ds) same_rounds)
+        unmoved r _ (bare rounds ds) _ before (told_is t ∙ told_refused r (bare rounds ds) x v t a e) refl
 
-    pub told_counted : (t : ToldAnswer) (new : Round) (before : List Envelope) → counts_told a t.replica ≡ true → new ≡ with_told a t → length new.tolds < quorum r.replicas
-        → TakesTurn r (take_told r (bare rounds ds) x v t (round_of x v rounds)) (bare (set rounds i new) ds) before before
-    told_counted t new before e n few =
-        let count : length (a.tolds ++ t ∷ []) < quorum r.replicas = subst (λ (b : Round). length b.tolds < quorum r.replicas) n few in
+    pub told_counted : (t : ToldAnswer) (rounds' : List Round) (new : Round) (before : List Envelope) → counts_told a t.replica ≡ true
+        → rounds' ≡ with_round x v (with_told a t) rounds → round_of x v rounds' ≡ Some new → length new.tolds < quorum r.replicas
+        → TakesTurn r (take_told r (bare rounds ds) x v t (round_of x v rounds)) (bare rounds' ds) before before
+    told_counted t rounds' new before e n there few =
+        let new_is : new ≡ with_told a t = let put = told_put t rounds' n in cc in
+        let count : length (a.tolds ++ t ∷ []) < quorum r.replicas = subst (λ (b : Round). length b.tolds < quorum r.replicas) new_is few in
         let long : length (a.tolds ++ t ∷ []) ≡ length a.tolds + 1 = length-append a.tolds (t ∷ []) in
         unmoved r _ (round_put (bare rounds ds) x v (with_told a t)) _ before
         (told_is t ∙ told_taken r (bare rounds ds) x v t a false e (grind (arith, nat_tests)))
-        (ap (λ rs. bare rs ds) (ap (λ b. set rounds i b) n ∙ sym (round_put_at x v (with_told a t) rounds i found)))
+        (ap (λ rs. bare rs ds) n)
 
-    pub told_fixes : (t : ToldAnswer) (new last : Round) (p : Proposal) (b : Body) (before after : List Envelope) → counts_told a t.replica ≡ true → new ≡ with_told a t → quorum r.replicas ≤ length new.tolds
-        → p ≡ fixed new.tolds → b ≡ Finalize x v p.choice p.content → last ≡ with_proposal new p → after ≡ before ++ to_all r.replicas (Warden r.warden) b
-        → TakesTurn r (take_told r (bare rounds ds) x v t (round_of x v rounds)) (bare (set rounds i last) ds) before after
+    pub told_fixes : (t : ToldAnswer) (rounds' last : List Round) (new : Round) (p : Proposal) (b : Body) (before after : List Envelope) → counts_told a t.replica ≡ true
+        → rounds' ≡ with_round x v (with_told a t) rounds → round_of x v rounds' ≡ Some new → quorum r.replicas ≤ length new.tolds
+        → p ≡ fixed new.tolds → b ≡ Finalize x v p.choice p.content → last ≡ with_round x v (with_proposal new p) rounds'
+        → after ≡ before ++ to_all r.replicas (Warden r.warden) b
+        → TakesTurn r (take_told r (bare rounds ds) x v t (round_of x v rounds)) (bare last ds) before after
     unfolding proposes
-    told_fixes t new last p b before after e n many p_is b_is l o =
-        let count : quorum r.replicas ≤ length (a.tolds ++ t ∷ []) = subst (λ (c : Round). quorum r.replicas ≤ length c.tolds) n many in
+    told_fixes t rounds' last new p b before after e n there many p_is b_is l o =
+        let new_is : new ≡ with_told a t = let put = told_put t rounds' n in cc in
+        let count : quorum r.replicas ≤ length (a.tolds ++ t ∷ []) = subst (λ (c : Round). quorum r.replicas ≤ length c.tolds) new_is many in
         let long : length (a.tolds ++ t ∷ []) ≡ length a.tolds + 1 = length-append a.tolds (t ∷ []) in
         let turn : take_told r (bare rounds ds) x v t (round_of x v rounds) ≡ proposes (bare rounds ds) x v (with_told a t) =
         told_is t ∙ told_taken r (bare rounds ds) x v t a true e (grind (arith, nat_tests)) in
-        let choice_is : p ≡ fixed (a.tolds ++ t ∷ []) = p_is ∙ ap (λ (c : Round). fixed c.tolds) n in
-        let last_is : last ≡ with_proposal (with_told a t) (fixed (a.tolds ++ t ∷ [])) = l ∙ ap (λ (c : Round). with_proposal c p) n ∙ ap (λ (q : Proposal). with_proposal (with_told a t) q) choice_is in
+        let choice_is : p ≡ fixed (a.tolds ++ t ∷ []) = p_is ∙ ap (λ (c : Round). fixed c.tolds) new_is in
+        let round_is : with_proposal new p ≡ with_proposal (with_told a t) (fixed (a.tolds ++ t ∷ [])) =
+        ap (λ (c : Round). with_proposal c p) new_is ∙ ap (λ (q : Proposal). with_proposal (with_told a t) q) choice_is in
+        let last_is : last ≡ with_round x v (with_proposal (with_told a t) (fixed (a.tolds ++ t ∷ []))) rounds =
+        l ∙ ap (λ c. with_round x v c rounds') round_is ∙ ap (λ rs. with_round x v (with_proposal (with_told a t) (fixed (a.tolds ++ t ∷ []))) rs) n
+        ∙ put_twice x v rounds (with_told a t) _ (found_is_of x v rounds a found) in
         let body_is : b ≡ Finalize x v (fixed (a.tolds ++ t ∷ [])).choice (fixed (a.tolds ++ t ∷ [])).content = b_is ∙ ap (λ (q : Proposal). Finalize x v q.choice q.content) choice_is in
-        subst (λ u. TakesTurn r u (bare (set rounds i last) ds) before after) (sym turn) (record {
-          state_is = ap (λ rs. bare rs ds) (ap (λ c. set rounds i c) last_is ∙ sym (round_put_at x v _ rounds i found));
+        subst (λ u. TakesTurn r u (bare last ds) before after) (sym turn) (record {
+          state_is = ap (λ rs. bare rs ds) last_is;
           sent = sent_to_all r _ before after (o ∙ ap (λ c. before ++ to_all r.replicas (Warden r.warden) c) body_is);
         })
 
@@ -148,28 +158,34 @@ accept_ends r s x v j a p h e many =
     ∙ ap (λ (b : Round). decides r s x v b p) (accepted_is a p j h)
 
 module _ (r : WardenRules) (rounds : List Round) (ds : List DecidedProposal) (x : Exec) (v : ℕ) where
-  pub accept_unasked : (j : ℕ) (before : List Envelope) → position (is_of x v) rounds ≡ None
+  pub accept_unasked : (j : ℕ) (before : List Envelope) → round_of x v rounds ≡ None
       → TakesTurn r (take_accept r (bare rounds ds) x v j (round_of x v rounds)) (bare rounds ds) before before
   accept_unasked j before e =
-      unmoved r _ (bare rounds ds) (bare rounds ds) before (ap (λ o. take_accept r (bare rounds ds) x v j o) (round_absent x v rounds e)) refl
+      unmoved r _ (bare rounds ds) (bare rounds ds) before (ap (λ o. take_accept r (bare rounds ds) x v j o) e) refl
 
-  module _ (i : ℕ) (a : Round) (found : position (is_of x v) rounds ≡ Some i) (here : a ≡ get_or rounds i a) where
+  module _ (a : Round) (found : round_of x v rounds ≡ Some a) where
     accept_is : (j : ℕ) → take_accept r (bare rounds ds) x v j (round_of x v rounds) ≡ count_accept r (bare rounds ds) x v j a a.proposal
-    accept_is j = ap (λ o. take_accept r (bare rounds ds) x v j o) (round_found x v rounds i a found here)
+    accept_is j = ap (λ o. take_accept r (bare rounds ds) x v j o) found
+
+    -- with one more acceptance the round is that one
+    pub accept_put : (j : ℕ) (rounds' : List Round) → rounds' ≡ with_round x v (accepted_by a j) rounds → round_of x v rounds' ≡ Some (accepted_by a j)
+    accept_put j rounds' e = ap (round_of x v) e ∙ put_is_found x v rounds a (accepted_by a j) found (found_is_of x v rounds a found)
 
     pub accept_ignored : (j : ℕ) (before : List Envelope) → counts_accept a j ≡ false
-        → TakesTurn r (take_accept r (bare rounds ds) x v j (round_of x v rounds)) (bare (set rounds i a) ds) before before
+        → TakesTurn r (take_accept r (bare rounds ds) x v j (round_of x v rounds)) (bare rounds ds) before before
     accept_ignored j before e =
-        unmoved r _ (bare rounds ds) _ before (accept_is j ∙ accept_refused r (bare rounds ds) x v j a a.proposal e) (ap (λ rs. bare rs ds) (ap (λ b. set rounds i b) here ∙ set-get_or rounds i a))
+        unmoved r _ (bare rounds ds) _ before (accept_is j ∙ accept_refused r (bare rounds ds) x v j a a.proposal e) refl
 
-    pub accept_counted : (j : ℕ) (new : Round) (before : List Envelope) → counts_accept a j ≡ true → new ≡ accepted_by a j → length new.accepts < quorum r.replicas
-        → TakesTurn r (take_accept r (bare rounds ds) x v j (round_of x v rounds)) (bare (set rounds i new) ds) before before
-    accept_counted j new before e n few =
-        let count : length (a.accepts ++ j ∷ []) < quorum r.replicas = subst (λ (b : Round). length b.accepts < quorum r.replicas) n few in
+    pub accept_counted : (j : ℕ) (rounds' : List Round) (new : Round) (before : List Envelope) → counts_accept a j ≡ true
+        → rounds' ≡ with_round x v (accepted_by a j) rounds → round_of x v rounds' ≡ Some new → length new.accepts < quorum r.replicas
+        → TakesTurn r (take_accept r (bare rounds ds) x v j (round_of x v rounds)) (bare rounds' ds) before before
+    accept_counted j rounds' new before e n there few =
+        let new_is : new ≡ accepted_by a j = let put = accept_put j rounds' n in cc in
+        let count : length (a.accepts ++ j ∷ []) < quorum r.replicas = subst (λ (b : Round). length b.accepts < quorum r.replicas) new_is few in
         let long : length (a.accepts ++ j ∷ []) ≡ length a.accepts + 1 = length-append a.accepts (j ∷ []) in
         unmoved r _ (round_put (bare rounds ds) x v (accepted_by a j)) _ before
         (accept_is j ∙ accept_waits r (bare rounds ds) x v j a e (grind (arith, nat_tests)))
-        (ap (λ rs. bare rs ds) (ap (λ b. set rounds i b) n ∙ sym (round_put_at x v (accepted_by a j) rounds i found)))
+        (ap (λ rs. bare rs ds) n)
 
     -- the turn of a decision
     abbrev decided_turn : List Round → Proposal → WardenTurn
@@ -178,25 +194,31 @@ module _ (r : WardenRules) (rounds : List Round) (ds : List DecidedProposal) (x 
       sent = To_all (Decide x p.choice p.content) ∷ to_client r x (Decide x p.choice p.content);
     }
 
-    pub accept_decides : (j : ℕ) (new : Round) (p q : Proposal) (last : WardenState) (before after : List Envelope) → counts_accept a j ≡ true → new ≡ accepted_by a j → quorum r.replicas ≤ length new.accepts
+    pub accept_decides : (j : ℕ) (rounds' : List Round) (new : Round) (p q : Proposal) (last : WardenState) (before after : List Envelope) → counts_accept a j ≡ true
+        → rounds' ≡ with_round x v (accepted_by a j) rounds → round_of x v rounds' ≡ Some new → quorum r.replicas ≤ length new.accepts
         → new.proposal ≡ Some q → p ≡ q
-        → TakesTurn r (decided_turn (set rounds i new) p) last before after
+        → TakesTurn r (decided_turn rounds' p) last before after
         → TakesTurn r (take_accept r (bare rounds ds) x v j (round_of x v rounds)) last before after
     unfolding decides
-    accept_decides j new p q last before after e n many h p_is t =
-        let count : quorum r.replicas ≤ length (a.accepts ++ j ∷ []) = subst (λ (b : Round). quorum r.replicas ≤ length b.accepts) n many in
+    accept_decides j rounds' new p q last before after e n there many h p_is t =
+        let new_is : new ≡ accepted_by a j = let put = accept_put j rounds' n in cc in
+        let count : quorum r.replicas ≤ length (a.accepts ++ j ∷ []) = subst (λ (b : Round). quorum r.replicas ≤ length b.accepts) new_is many in
         let long : length (a.accepts ++ j ∷ []) ≡ length a.accepts + 1 = length-append a.accepts (j ∷ []) in
-        let had : a.proposal ≡ Some p = sym (ap (λ (b : Round). b.proposal) n) ∙ h ∙ ap (λ (o : Proposal). Some o) (sym p_is) in
-        let rounds_are : set rounds i new ≡ with_round x v (accepted_by a j) rounds = ap (λ b. set rounds i b) n ∙ sym (round_put_at x v (accepted_by a j) rounds i found) in
+        let had : a.proposal ≡ Some p = sym (ap (λ (b : Round). b.proposal) new_is) ∙ h ∙ ap (λ (o : Proposal). Some o) (sym p_is) in
         let turn : take_accept r (bare rounds ds) x v j (round_of x v rounds) ≡ decides r (bare rounds ds) x v (accepted_by a j) p =
         accept_is j ∙ accept_ends r (bare rounds ds) x v j a p had e (grind (arith, nat_tests)) in
-        subst (λ u. TakesTurn r u last before after) (ap (λ rs. decided_turn rs p) rounds_are ∙ sym turn) t
+        subst (λ u. TakesTurn r u last before after) (ap (λ rs. decided_turn rs p) n ∙ sym turn) t
 
-pub next_view_of : (result : Option ℕ) (r r' : WardenRules) (s s' : WardenState) (x : Exec) (rounds : List Round) → r ≡ r' → s ≡ s' → rounds ≡ s.rounds
-    → MatchOption result (last_view < r.warden + used x rounds * r.wardens) (λ v. v ≡ r.warden + used x rounds * r.wardens)
-    → MatchOption result (last_view < next_view r' s' x) (λ v. v ≡ next_view r' s' x)
+-- one more acceptance counts only where something is proposed
+pub accept_proposed : (a new : Round) (j : ℕ) → counts_accept a j ≡ true → new ≡ accepted_by a j → new.proposal ≡ None → ⊥
+accept_proposed a new j e n none =
+    let had : a.proposal ≡ None = sym (ap (λ (b : Round). b.proposal) n) ∙ none in
+    let counted : (false && not (list_any (λ i. i == j) a.accepts)) ≡ true =
+    subst (λ (o : Option Proposal). (is_some o && not (list_any (λ i. i == j) a.accepts)) ≡ true) had e in
+    absurd (cc)
+
+pub next_view_of : (result : Option ℕ) (r : WardenRules) (s : WardenState) (x : Exec) (n : ℕ) → n ≡ used x s.rounds
+    → MatchOption result (last_view < r.warden + n * r.wardens) (λ v. v ≡ r.warden + n * r.wardens)
+    → MatchOption result (last_view < next_view r s x) (λ v. v ≡ next_view r s x)
 unfolding next_view
-next_view_of result r r' s s' x rounds r_is s_is rounds_are h =
-    let e : r.warden + used x rounds * r.wardens ≡ next_view r' s' x =
-    ap (λ rs. r.warden + used x rs * r.wardens) rounds_are ∙ ap (λ (t : WardenState). next_view r t x) s_is ∙ ap (λ (q : WardenRules). next_view q s' x) r_is in
-    subst (λ n. MatchOption result (last_view < n) (λ v. v ≡ n)) e h
+next_view_of result r s x n e h = subst (λ m. MatchOption result (last_view < r.warden + m * r.wardens) (λ v. v ≡ r.warden + m * r.wardens)) e h

@@ -1,12 +1,11 @@
-ghost use Rattle.std.specs.Prelude.{◌≡◌, ◌==◌, ◌+◌, ◌*◌, ◌<◌, [], length, None, IfOk, OnOk, is_some, true, position, MatchOption};
+ghost use Rattle.std.specs.Prelude.{◌≡◌, ◌==◌, ◌+◌, ◌*◌, ◌<◌, [], length, None, OnOk, OnErr, is_some, true, MatchOption};
 ghost use Rattle.std.specs.List.{list_any};
 ghost use Rattle.std.specs.Option.{option_copied};
-ghost use Rattle.morty_base.specs.Names.{same_exec};
-ghost use Rattle.protocol.specs.Warden.Recovery.{with_told, with_proposal, used};
-ghost use Rattle.recovery.specs.Round.{last_view, is_of, counts_told, counts_accept, accepted_by};
+ghost use Rattle.protocol.specs.Warden.Recovery.{with_told, with_proposal};
+ghost use Rattle.recovery.specs.Round.{last_view, counts_told, counts_accept, accepted_by};
 
 use crate::proposal::{Proposal, Told};
-use morty_base::{Exec, List, NoMemory, is_same_exec};
+use morty_base::{Exec, List, NoMemory};
 use std::alloc::Global;
 use std::marker::Model;
 
@@ -50,16 +49,16 @@ impl Round {
         }
     }
 
-    pub fn is_about(&self, exec: Exec) -> bool
-        ensures { result ≡ same_exec exec self.now.exec }
+    pub fn exec(&self) -> Exec
+        ensures { result ≡ self.now.exec }
     {
-        is_same_exec(exec, self.exec)
+        self.exec
     }
 
-    fn is_of(&self, exec: Exec, view: u32) -> bool
-        ensures { result ≡ is_of exec view self.now }
+    pub fn is_in(&self, view: u32) -> bool
+        ensures { result ≡ (self.now.view == view) }
     {
-        is_same_exec(exec, self.exec) && self.view == view
+        self.view == view
     }
 
     pub fn proposal(&self) -> Option<&Proposal>
@@ -93,7 +92,8 @@ impl Round {
     /// One more Told.
     pub fn add_told(&mut self, told: Told) -> Result<(), NoMemory>
         requires { self.old.proposal ≡ None }
-        ensures { OnOk result (self.new ≡ with_told self.old told) }
+        ensures ok { OnOk result (self.new ≡ with_told self.old told) }
+        ensures err { OnErr result (self.new ≡ self.old) }
     {
         self.tolds.push(told)
     }
@@ -137,7 +137,8 @@ impl Round {
     /// One more replica accepted the proposal.
     pub fn add_accept(&mut self, replica: u32) -> Result<(), NoMemory>
         requires { is_some self.old.proposal ≡ true }
-        ensures { OnOk result (self.new ≡ accepted_by self.old replica) }
+        ensures ok { OnOk result (self.new ≡ accepted_by self.old replica) }
+        ensures err { OnErr result (self.new ≡ self.old) }
     {
         match &mut self.phase {
             Phase::Asking => Ok(()),
@@ -146,25 +147,11 @@ impl Round {
     }
 }
 
-/// The place of the round of an execution in a view.
-pub fn round_at(rounds: &[Round], exec: Exec, view: u32) -> Option<usize>
-    ensures { result ≡ position (is_of exec view) rounds.now }
+/// The lowest view not yet used for an execution of which so many were: the k-th of W wardens has the views k, k + W,
+/// k + 2W and on. None is where that is past all views.
+pub fn next_view(warden: u32, wardens: u32, used: usize) -> Option<u32>
+    ensures { MatchOption result (last_view < warden + used * wardens) (λ view. view ≡ warden + used * wardens) }
 {
-    rounds.iter().position(|round| round.is_of(exec, view))
-}
-
-/// The lowest view not yet used for an execution: the k-th of W wardens has the views k, k + W, k + 2W and on.
-/// None is where that is past all views.
-pub fn next_view(rounds: &[Round], warden: u32, wardens: u32, exec: Exec) -> Option<u32>
-    ensures { MatchOption result
-        (last_view < warden + used exec rounds.now * wardens)
-        (λ view. view ≡ warden + used exec rounds.now * wardens) }
-{
-    let mut view = warden;
-    for round in rounds {
-        if round.is_about(exec) {
-            view = view.checked_add(wardens)?;
-        }
-    }
-    Some(view)
+    let view = u128::from(warden) + used as u128 * u128::from(wardens);
+    u32::try_from(view).ok()
 }

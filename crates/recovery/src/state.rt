@@ -9,9 +9,10 @@ ghost use Rattle.protocol.specs.World.Events.{parcel};
 ghost use Rattle.recovery.specs.Round.{last_view};
 ghost use Rattle.recovery.specs.Recoverer.{TakesTurn};
 
-use crate::decision::{Decision, decision_on};
+use crate::decision::{Decision, Decisions};
 use crate::proposal::{Proposal, Told, fixed};
-use crate::round::{Round, next_view, round_at};
+use crate::round::{Round, next_view};
+use crate::rounds::Rounds;
 use crate::rules::Rules;
 use morty_base::{Exec, List, NoMemory};
 use msg::{Body, Envelope, copy_content};
@@ -21,8 +22,8 @@ use std::marker::Model;
 /// What a warden remembers of its recoveries, the newest first.
 #[derive(Drop)]
 pub struct State {
-    rounds: Vec<Round>,
-    decisions: Vec<Decision>,
+    rounds: Rounds,
+    decisions: Decisions,
 }
 
 impl Model for State {
@@ -31,7 +32,7 @@ impl Model for State {
 
     ghost Value = { WardenState };
 
-    ghost view = { λ s. record { rounds = s.rounds.items; decisions = s.decisions.items; truncations = [] } };
+    ghost view = { λ s. record { rounds = s.rounds; decisions = s.decisions; truncations = [] } };
 }
 
 impl State {
@@ -39,8 +40,8 @@ impl State {
         ensures { result ≡ fresh_warden }
     {
         State {
-            rounds: Vec::new(alloc),
-            decisions: Vec::new(alloc),
+            rounds: Rounds::new(alloc),
+            decisions: Decisions::new(alloc),
         }
     }
 
@@ -48,7 +49,7 @@ impl State {
     pub fn decision_on(&self, exec: Exec) -> Option<&Decision>
         ensures { option_copied result ≡ decision_on self.now exec }
     {
-        decision_on(&self.decisions, exec)
+        self.decisions.on(exec)
     }
 
     /// Whether an execution is not decided.
@@ -64,14 +65,14 @@ impl State {
             (last_view < next_view rules.now self.now exec)
             (λ view. view ≡ next_view rules.now self.now exec) }
     {
-        next_view(&self.rounds, rules.warden, rules.wardens, exec)
+        next_view(rules.warden, rules.wardens, self.rounds.used(exec))
     }
 
     /// Whether an execution was asked about.
     pub fn is_recovering(&self, exec: Exec) -> bool
         ensures { result ≡ is_recovering self.now exec }
     {
-        self.rounds.iter().any(|round| round.is_about(exec))
+        self.rounds.has(exec)
     }
 
     /// Asks all replicas in the next view.
@@ -86,7 +87,7 @@ impl State {
         requires { view ≡ next_view rules.now self.old exec }
         ensures { OnOk result (TakesTurn rules.now (recover rules.now self.old exec) self.new out.old out.new) }
     {
-        self.rounds.insert(0, Round::new(alloc, exec, view))?;
+        self.rounds.add(alloc, Round::new(alloc, exec, view))?;
         rules.send_to_all(alloc, &Body::Ask { exec, view }, out)
     }
 
@@ -102,20 +103,22 @@ impl State {
     ) -> Result<(), NoMemory>
         ensures { OnOk result (TakesTurn rules.now (take_told rules.now self.old exec view told (round_of exec view self.old.rounds)) self.new out.old out.new) }
     {
-        let Some(at) = round_at(&self.rounds, exec, view) else {
+        let Some(round) = self.rounds.get(exec, view) else {
             return Ok(());
         };
-        let round = &mut self.rounds[at];
         if !round.counts_told(told.replica) {
             return Ok(());
         }
-        round.add_told(told)?;
+        self.rounds.add_told(exec, view, told)?;
+        let Some(round) = self.rounds.get(exec, view) else {
+            unreachable!();
+        };
         if round.tolds().len() < rules.quorum() {
             return Ok(());
         }
         let proposal = fixed(alloc, round.tolds())?;
         let body = proposal.finalize(alloc, exec, view)?;
-        round.propose(alloc, proposal);
+        self.rounds.propose(alloc, exec, view, proposal);
         rules.send_to_all(alloc, &body, out)
     }
 
@@ -138,8 +141,7 @@ impl State {
         let body = proposal.decide(alloc, exec)?;
         rules.send_to_all(alloc, &body, out)?;
         rules.send_to_client(exec, body, out)?;
-        self.decisions.insert(0, Decision { exec, proposal })?;
-        Ok(())
+        self.decisions.add(alloc, Decision { exec, proposal })
     }
 
     // f+1 Accepted of a view decide what was proposed in it.
@@ -154,14 +156,16 @@ impl State {
     ) -> Result<(), NoMemory>
         ensures { OnOk result (TakesTurn rules.now (take_accept rules.now self.old exec view replica (round_of exec view self.old.rounds)) self.new out.old out.new) }
     {
-        let Some(at) = round_at(&self.rounds, exec, view) else {
+        let Some(round) = self.rounds.get(exec, view) else {
             return Ok(());
         };
-        let round = &mut self.rounds[at];
         if !round.counts_accept(replica) {
             return Ok(());
         }
-        round.add_accept(replica)?;
+        self.rounds.add_accept(exec, view, replica)?;
+        let Some(round) = self.rounds.get(exec, view) else {
+            unreachable!();
+        };
         if round.accept_count() < rules.quorum() {
             return Ok(());
         }

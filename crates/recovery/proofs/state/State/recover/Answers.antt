@@ -9,6 +9,6 @@ use Rattle.recovery.proofs.state.State.recover.Goals as goal
 pub returns : goal.returns
 returns c = on_ok_weaker c.send_to_all.result (λ sent.
     at_state c.args.rules.now _ _ _ (λ s. recover c.args.rules.now s c.args.exec) _ _ c.self.view_is
-    (recovers c.args.rules.now (bare c.self.inside.rounds.items c.self.inside.decisions.items) c.args.exec c.args.view c.insert.new.self.items c.args.out.now c.send_to_all.new.out
+    (recovers c.args.rules.now (bare c.self.inside.rounds c.self.inside.decisions) c.args.exec c.args.view c.add.new.self c.args.out.now c.send_to_all.new.out
     (c.requires ∙ ap (λ (s : WardenState). next_view c.args.rules.now s c.args.exec) (sym c.self.view_is))
-    (c.in_ok-insert.ensures.items ∙ ap (λ (a : Round). a ∷ c.self.inside.rounds.items) c.new.ensures) sent)) c.send_to_all.ensures
+    (c.in_ok-add.ensures ∙ ap (λ (a : Round). a ∷ c.self.inside.rounds) c.new.ensures) sent)) c.send_to_all.ensures
