@@ -14,3 +14,4 @@ pub mod OneOutcome
 pub mod GroupLemmas
 pub mod ListedLemmas
 pub mod StageTwo
+pub mod TextLemmas

@@ -7,3 +7,4 @@ pub mod Checks
 pub mod Stages
 pub mod Texts
 pub mod Groups
+pub mod Canonical

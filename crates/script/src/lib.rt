@@ -3,7 +3,7 @@
 //! The definitions, in the order in which they build on each other: grammars as data (`Rules`) and when the next token
 //! decides what is read (`Fits`); the items of a script (`Items`) and their grammar (`Grammar`); what the items say, one
 //! after another (`Meaning`), and the checks that they pass (`Checks`); what the tokens are in the second stage
-//! (`Stages`), and what a text says: its script or its one fault (`Texts`). `Groups` tells the reader's way.
+//! (`Stages`), and what a text says: its script or its one fault (`Texts`); and the canonical text of a setup (`Canonical`). `Groups` tells the reader's way.
 //!
 //! The proof: what a rule derives begins as the rule may begin (`Starts`), so a rule that fits is read from each list that
 //! begins with what it derives (`RulesComplete`). What was read is derived, and a fault is at the first token with which
@@ -15,14 +15,17 @@
 
 ghost use Rattle.script.specs.Texts.{OneOutcome};
 
+mod client_text;
 mod clients;
 mod items;
 mod limits;
+mod plan_text;
 mod plans;
 mod readers;
 mod reading;
 mod setup;
 mod stages;
+mod text;
 mod tokens;
 
 pub use items::{
@@ -36,6 +39,7 @@ pub use limits::{
 };
 pub use setup::{First, NamedProg, Net, Policy, Setup, Txn};
 pub use stages::read_items;
+pub use text::script_text;
 
 /// Each text says one script or has one fault, and not both.
 pub fn one_outcome()
