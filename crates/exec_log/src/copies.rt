@@ -2,30 +2,18 @@ ghost use Rattle.std.specs.Prelude.{◌≡◌, ◌++◌, map, IfOk, OnOk};
 ghost use Rattle.exec_log.specs.Entries.{read_of, write_entries};
 
 use crate::read::LogRead;
-use continuation::{Cont, Next};
+use continuation::Next;
 use flat_code::Write2;
 use morty_base::{List, NoMemory};
 use msg::{Read, Write};
 use std::alloc::Global;
-
-pub(crate) fn copy_cont(alloc: Global, cont: &Cont) -> Result<Cont, NoMemory>
-    ensures { IfOk result (λ copy. copy ≡ cont.now) }
-{
-    let loops = cont.loops.copy(alloc)?;
-    let locals = cont.locals.copy(alloc)?;
-    Ok(Cont {
-        pc: cont.pc,
-        loops,
-        locals,
-    })
-}
 
 pub(crate) fn copy_next(alloc: Global, next: &Next) -> Result<Next, NoMemory>
     ensures { IfOk result (λ copy. copy ≡ next.now) }
 {
     match next {
         Next::Asks { key, cont } => {
-            let cont = copy_cont(alloc, cont)?;
+            let cont = cont.copy(alloc)?;
             Ok(Next::Asks { key: *key, cont })
         }
         Next::Ends(how) => Ok(Next::Ends(*how)),

@@ -1,4 +1,4 @@
-ghost use Rattle.std.specs.Prelude.{◌≡◌, ◌<◌, ◌++◌, [], ◌∷◌, List, map, take, length, true, false, Some, None, slice_get, slice_set, IsSome, IsErr, IfSome, IfOk, OnOk, OnErr};
+ghost use Rattle.std.specs.Prelude.{◌≡◌, ◌<◌, ◌++◌, [], ◌∷◌, List, map, take, length, true, false, Some, None, slice_get, slice_set, IsSome, IsErr, IfSome, IfOk, OnOk, OnErr, is_none};
 ghost use Rattle.txn_lang.specs.Keys.{Entry};
 ghost use Rattle.txn_lang.specs.Laws.{values_of};
 ghost use Rattle.txn_lang.specs.Program.{Program, replay_of, serial_of};
@@ -7,7 +7,7 @@ ghost use Rattle.exec_log.specs.Entries.{read_of, kept_writes};
 ghost use Rattle.exec_log.specs.Log.{fresh_log, answers_of, asked_by, ending_by, labelled_read, labelled, answered_at};
 ghost use Rattle.exec_log.specs.Standing.{StandsFor, IsLastRun, GoesOnAt, IsLastJob, IsContentOf};
 
-use crate::copies::{add_writes, content_reads, copy_cont, copy_next};
+use crate::copies::{add_writes, content_reads, copy_next};
 use crate::knowledge::knowledge;
 use crate::read::{LogRead, Place};
 use continuation::{JobAt, Next, Seg};
@@ -117,7 +117,7 @@ impl ExecLog {
             unreachable!();
         };
         let known = knowledge(alloc, self.reads.as_slice(), self.writes.as_slice())?;
-        let from = copy_cont(alloc, &cont)?;
+        let from = cont.copy(alloc)?;
         let (wrote, printed) = (self.writes.len(), self.out.len());
         self.places.push(Place {
             cont,
@@ -183,7 +183,7 @@ impl ExecLog {
         self.out.truncate(self.places[i].printed);
         self.next = None;
         let known = knowledge(alloc, self.reads.as_slice(), self.writes.as_slice())?;
-        let cont = copy_cont(alloc, &self.places[i].cont)?;
+        let cont = self.places[i].cont.copy(alloc)?;
         self.reads.push(LogRead {
             key,
             wid,
@@ -232,6 +232,20 @@ impl ExecLog {
         ensures { slice_get self.now.reads i ≡ Some result }
     {
         self.reads[i]
+    }
+
+    /// The reads that were answered, with their labels.
+    pub fn entries(&self) -> &[LogRead]
+        ensures { result.now ≡ self.now.reads }
+    {
+        self.reads.as_slice()
+    }
+
+    /// Whether the segment of a job is still to come.
+    pub fn is_pending(&self) -> bool
+        ensures { result ≡ is_none self.now.next }
+    {
+        self.next.is_none()
     }
 
     /// The key of the question, where one stands.

@@ -118,6 +118,13 @@ impl Tally {
         }
     }
 
+    /// How many replicas vote.
+    pub fn replicas(&self) -> u32
+        ensures { result ≡ self.now.replicas }
+    {
+        self.replicas
+    }
+
     fn has_voted(&self, replica: u32) -> bool
         ensures { result ≡ has_voted replica self.now }
     {
