@@ -20,3 +20,4 @@ pub mod BodyLemmas
 pub mod BoundForm
 pub mod BoundPrograms
 pub mod ResolveLemmas
+pub mod NameIndexLemmas

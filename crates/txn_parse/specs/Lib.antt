@@ -8,3 +8,4 @@ pub mod Counts
 pub mod Faults
 pub mod Gives
 pub mod Binding
+pub mod NameIndex

@@ -4,7 +4,8 @@
 //! The definitions, in the order in which they build on each other: the symbol of a token (`Symbols`), trees with tokens
 //! (`Tree`), an expression while it is read (`Pending`), the grammar (`Grammar`), reading from left to right (`Reading`),
 //! what is true of it (`Laws`), what a call gives (`Gives`), limits as counts of tokens (`Counts`), the one fault of a list
-//! of tokens, for any grammar (`Faults`), and the names of a block with the checks that it passes (`Binding`).
+//! of tokens, for any grammar (`Faults`), the names of a block with the checks that it passes (`Binding`), and an index of
+//! names (`NameIndex`).
 //!
 //! The proof: what is open in an expression stands for the tokens that were read (`PendingLemmas`); a block's statements
 //! are read one after another (`ReadingLemmas`); what is within limits is in the grammar without them (`LimitsLemmas`).
@@ -14,7 +15,7 @@
 //! are (`CountsLemmas`), a list has one fault at most (`OneFault`), and a reader without limits (`FreeBlocks`), whose
 //! limits are as wide as the list (`WideLimits`), decides whether it has one (`FaultIsDecided`).
 //!
-//! Names: they keep their places while a list of them grows (`NamesLemmas`), and a statement goes on the list of those
+//! Names: they keep their places while a list of them grows (`NamesLemmas`, `NameIndexLemmas`), and a statement goes on the list of those
 //! before it (`RawTrees`, `BodyLemmas`). What the grammar says of a block's tokens (`BoundForm`) makes the program of a
 //! block whose checks pass well formed and, where no limit is passed, one within the limits (`BoundPrograms`), so the
 //! fault is that of the first check (`ResolveLemmas`).
@@ -24,6 +25,7 @@ mod blocks;
 mod bodies;
 mod expressions;
 mod limits;
+mod name_index;
 mod names;
 mod pending;
 mod program;
@@ -35,6 +37,7 @@ mod tree;
 
 pub use blocks::read_block;
 pub use limits::first_past;
+pub use name_index::NameIndex;
 pub use program::{fault_laws, grammar_laws, last_line, parse_prog};
 pub use resolve::resolve_prog;
 pub use statements::separator;
