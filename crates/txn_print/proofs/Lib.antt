@@ -2,3 +2,10 @@ pub mod PrinterLemmas
 pub mod CountLemmas
 pub mod LaidLemmas
 pub mod LineLemmas
+pub mod LexedLemmas
+pub mod PlacesLemmas
+pub mod ReadTerms
+pub mod ReadBlocks
+pub mod ReadPrograms
+pub mod PiecesLemmas
+pub mod CanonicalIsRead

@@ -3,3 +3,4 @@ pub mod Printer
 pub mod Canonical
 pub mod Spelling
 pub mod Laws
+pub mod Written
