@@ -24,7 +24,7 @@ after : (xs ys : List Lexeme) (o n p m : ℕ) → counted o n xs ≡ Ok (p, m) �
 after xs ys o n p m is = counted-append xs ys o n ∙ ap (λ r. and_then r (λ c. counted c.0 c.1 ys)) is
 
 -- all of these tokens may stand in an expression
-abbrev AllIn : List Lexeme → Type 0
+abbrev pub AllIn : List Lexeme → Type 0
 AllIn [] = Unit {0}
 AllIn (l ∷ ls) = (in_expression l.symbol ≡ true) × AllIn ls
 
@@ -32,7 +32,7 @@ all_append : (xs ys : List Lexeme) → AllIn xs → AllIn ys → AllIn (xs ++ ys
 all_append [] ys a b = b
 all_append (x ∷ xs) ys a b = (a.0, all_append xs ys a.1 b)
 
-all_in : {n : ℕ} {ls : List Lexeme} {e : Term} → IsExpr n ls e → AllIn ls
+pub all_in : {n : ℕ} {ls : List Lexeme} {e : Term} → IsExpr n ls e → AllIn ls
 all_in (number t) = (refl, tt)
 all_in (local t) = (refl, tt)
 all_in (negative t ls a d) = (refl, all_in d)
@@ -109,14 +109,14 @@ mutual
       let others = stmts_counted f k o 0 is deep in
       (others.0, after ls (lexeme symbol.Semicolon s ∷ ms) o n o one.0 one.1 ∙ others.1)
 
-then_ok : (r : Counts) (f : ℕ × ℕ → Counts) (x : ℕ × ℕ) → and_then r f ≡ Ok x → (c : ℕ × ℕ) × (r ≡ Ok c) × (f c ≡ Ok x)
+pub then_ok : (r : Counts) (f : ℕ × ℕ → Counts) (x : ℕ × ℕ) → and_then r f ≡ Ok x → (c : ℕ × ℕ) × (r ≡ Ok c) × (f c ≡ Ok x)
 then_ok (Ok c) f x is = (c, refl, is)
 then_ok (Err past) f x is = cc
 
 pub parts : (xs ys : List Lexeme) (o n : ℕ) (x : ℕ × ℕ) → counted o n (xs ++ ys) ≡ Ok x → (c : ℕ × ℕ) × (counted o n xs ≡ Ok c) × (counted c.0 c.1 ys ≡ Ok x)
 parts xs ys o n x is = then_ok (counted o n xs) (λ c. counted c.0 c.1 ys) x (sym (counted-append xs ys o n) ∙ is)
 
-same_ok : (c x : ℕ × ℕ) → (let r : Counts = Ok c in r) ≡ Ok x → c ≡ x
+pub same_ok : (c x : ℕ × ℕ) → (let r : Counts = Ok c in r) ≡ Ok x → c ≡ x
 same_ok c x is = cc
 
 run_within : (ls : List Lexeme) (o n : ℕ) (x : ℕ × ℕ) → AllIn ls → n ≤ LONGEST_EXPRESSION → counted o n ls ≡ Ok x → (n + length ls ≤ LONGEST_EXPRESSION) × (x.0 ≡ o)
@@ -135,7 +135,7 @@ outer_within {es = es} d k o x is =
     (record { short = let b = w.0 in omega (arith, b); derived = d.derived }, w.1)
 
 -- a brace that may be opened
-opened : (o k n : ℕ) (t : Lexeme) (c : ℕ × ℕ) → o + k ≡ DEEPEST_BLOCK → one_counted o n t symbol.OpenBlock ≡ Ok c → (o < DEEPEST_BLOCK) × (c ≡ (o + 1, 0))
+pub opened : (o k n : ℕ) (t : Lexeme) (c : ℕ × ℕ) → o + k ≡ DEEPEST_BLOCK → one_counted o n t symbol.OpenBlock ≡ Ok c → (o < DEEPEST_BLOCK) × (c ≡ (o + 1, 0))
 opened o k n t c deep =
     cond_both (ltb o DEEPEST_BLOCK) (Ok (o + 1, 0)) (Err (t, Deep)) (λ r. r ≡ Ok c → (o < DEEPEST_BLOCK) × (c ≡ (o + 1, 0)))
     (λ less is. (ltb-true o DEEPEST_BLOCK less, sym (same_ok (o + 1, 0) c is)))

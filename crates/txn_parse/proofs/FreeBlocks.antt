@@ -1,17 +1,16 @@
 -- Blocks without limits: what is in the grammar is found, what is found is in it, and a fault is at the first bad token.
-use Rattle.std.proofs.Common.{◌≡◌, ℕ, ◌+◌, ◌≤◌, List, [], ◌++◌, length, Ok, Err, refl, sym, ap, ◌∙◌, subst, arith, inl, inr, ⊎_elim}
-use Rattle.std.proofs.lemmas.List.{append-nil, length-append}
+use Rattle.std.proofs.Common.{◌≡◌, ℕ, ◌+◌, ◌≤◌, List, [], ◌∷◌, ◌++◌, length, Ok, Err, refl, sym, ap, ◌∙◌, subst, arith, inl, inr, ⊎_elim}
+use Rattle.std.proofs.lemmas.List.{append_assoc, append-nil, length-append}
 use Rattle.txn_text.specs.declared.faults.TextFault.{TextFault}
 use Rattle.txn_parse.specs.Symbols.{Lexeme}
 use Rattle.txn_parse.specs.Tree.{Commands}
 use Rattle.txn_parse.specs.Grammar.{Free, Within, IsBlock}
-use Rattle.txn_parse.specs.Reading.{Found, syntax_at, block_at, block_from}
+use Rattle.txn_parse.specs.Reading.{Found, Reader, syntax_at, block_at, block_from}
 use Rattle.txn_parse.specs.Laws.{IsFirstBad}
 use Rattle.txn_parse.proofs.LimitsLemmas.{free_block, bound_block}
-use Rattle.txn_parse.proofs.Sound.{IsFound, IsBad, Answers}
+use Rattle.txn_parse.proofs.Sound.{IsFound, IsBad, Answers, first_of}
 use Rattle.txn_parse.proofs.SoundBlocks.{block_answers}
 use Rattle.txn_parse.proofs.CompleteBlocks.{reads_block}
-use Rattle.txn_parse.proofs.Laws.{first_bad}
 use Rattle.txn_parse.proofs.WideLimits.{block_plain}
 
 -- limits of at least n
@@ -96,6 +95,25 @@ reads_free last ls rest b d =
 
 enough : (last : ℕ) (ls : List Lexeme) (b : Commands) → IsBlock Free ls b → (j : Unit {0}) × (block_from last ls ≡ Ok (b, []))
 enough last ls b d = (tt, ap (block_from last) (sym (append-nil ls)) ∙ reads_free last ls [] b d)
+
+-- a reader that finds what is in the grammar: so a bad token is the first
+first_bad : {A J : Type 0} (last : ℕ) (Q : J → Reader A) (H : List Lexeme → A → Type 0) → ((ls : List Lexeme) (a : A) → H ls a → (j : J) × (Q j ls ≡ Ok (a, []))) →
+    (ls : List Lexeme) (f : TextFault) → IsBad last Q H ls f → IsFirstBad H last ls f
+first_bad last Q H enough ls f one = record {
+  front = one.front;
+  rest = one.rest;
+  split = one.split;
+  place = one.place;
+  begun = one.begun;
+  bad = λ l rest is begun.
+      let whole = (one.front ++ l ∷ []) ++ begun.0 in
+      let tokens : whole ≡ one.front ++ (l ∷ begun.0) = append_assoc one.front (l ∷ []) begun.0 in
+      let read = enough whole begun.1 begun.2 in
+      let fails = one.again read.0 (l ∷ begun.0) (ap first_of is) in
+      let same = ap (Q read.0) tokens in
+      let clash : Err (syntax_at last (l ∷ begun.0)) ≡ Ok (begun.1, []) = sym fails ∙ sym same ∙ read.1 in
+      cc;
+}
 
 -- a fault is at the first token with which nothing begins
 pub free_first_bad : (last : ℕ) (ls : List Lexeme) (f : TextFault) → block_from last ls ≡ Err f → IsFirstBad (IsBlock Free) last ls f

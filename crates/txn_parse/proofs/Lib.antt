@@ -8,11 +8,14 @@ pub mod Separators
 pub mod SoundBlocks
 pub mod CompleteExpr
 pub mod CompleteBlocks
-pub mod Laws
 pub mod CountsLemmas
+pub mod FirstPast
+pub mod LevelLemmas
+pub mod TokenCounts
 pub mod OneFault
 pub mod WideLimits
 pub mod FreeBlocks
+pub mod Laws
 pub mod FaultIsDecided
 pub mod NamesLemmas
 pub mod RawTrees

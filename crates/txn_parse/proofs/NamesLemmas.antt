@@ -43,14 +43,14 @@ pub found_second : {A : Type 0} (p : A → Bool) (xs ys : List A) → None ≡ f
 found_second p xs ys is = find-append p xs ys ∙ ap (λ o. option_or o (find p ys)) (sym is)
 
 -- a fault of the first checks, and one of those behind them
-pub first_fault : (xs ys : List Check) (f : TextFault) → FaultIs {A = Unit {0}} xs (Err f) → FaultIs {A = Unit {0}} (xs ++ ys) (Err f)
-first_fault xs ys (At line kind) is = first_failing-append xs ys ∙ ap (λ o. option_or o (first_failing ys)) is
-first_fault xs ys NoMemory is = tt
+pub first_fault : (A B : Type 0) (xs ys : List Check) (f : TextFault) → FaultIs {A = A} xs (Err f) → FaultIs {A = B} (xs ++ ys) (Err f)
+first_fault A B xs ys (At line kind) is = first_failing-append xs ys ∙ ap (λ o. option_or o (first_failing ys)) is
+first_fault A B xs ys NoMemory is = tt
 
-pub later_fault : (xs ys : List Check) (r : Result (Unit {0}) TextFault) → first_failing xs ≡ None → FaultIs ys r → FaultIs (xs ++ ys) r
-later_fault xs ys (Ok b) none is = first_failing-append xs ys ∙ ap (λ o. option_or o (first_failing ys)) none ∙ is
-later_fault xs ys (Err (At line kind)) none is = first_failing-append xs ys ∙ ap (λ o. option_or o (first_failing ys)) none ∙ is
-later_fault xs ys (Err NoMemory) none is = tt
+pub later_fault : (A : Type 0) (xs ys : List Check) (r : Result A TextFault) → first_failing xs ≡ None → FaultIs ys r → FaultIs (xs ++ ys) r
+later_fault A xs ys (Ok b) none is = first_failing-append xs ys ∙ ap (λ o. option_or o (first_failing ys)) none ∙ is
+later_fault A xs ys (Err (At line kind)) none is = first_failing-append xs ys ∙ ap (λ o. option_or o (first_failing ys)) none ∙ is
+later_fault A xs ys (Err NoMemory) none is = tt
 
 -- names that stand at the end of others
 pub record Grows (names later : Names) : Type 0 where

@@ -35,14 +35,14 @@ compared (h ∷ xs) [] x y xr yr is = let e : h ≡ y = cc in inr (inr (xs, ap (
 compared (h ∷ xs) (k ∷ ys) x y xr yr is = let e : h ≡ k = cc in behind_both h k xs ys x y e (compared xs ys x y xr yr (ap tail_of is))
 
 -- what begins with more tokens begins with fewer
-fewer : {A : Type 0} (G : List Lexeme → A → Type 0) (xs qs : List Lexeme) → Begins G (xs ++ qs) → Begins G xs
+pub fewer : {A : Type 0} (G : List Lexeme → A → Type 0) (xs qs : List Lexeme) → Begins G (xs ++ qs) → Begins G xs
 fewer G xs qs b = (qs ++ b.0, b.1, subst (λ l. G l b.1) (append_assoc xs qs b.0) b.2)
 
 ahead_begins : {A : Type 0} (G : List Lexeme → A → Type 0) (xs ys : List Lexeme) (x : Lexeme) → Ahead xs x ys → Begins G ys → Begins G (xs ++ x ∷ [])
 ahead_begins G xs ys x q b = fewer G (xs ++ x ∷ []) q.0 (subst (Begins G) (q.1 ∙ sym (append_assoc xs (x ∷ []) q.0)) b)
 
 -- where a front is past a limit, so is the whole
-stays_past : (xs qs : List Lexeme) (c : ℕ × ℕ) (e : Lexeme × FaultKind) → counted 0 0 xs ≡ Err e → counted 0 0 (xs ++ qs) ≡ Ok c → ⊥
+pub stays_past : (xs qs : List Lexeme) (c : ℕ × ℕ) (e : Lexeme × FaultKind) → counted 0 0 xs ≡ Err e → counted 0 0 (xs ++ qs) ≡ Ok c → ⊥
 stays_past xs qs c e over is =
     let clash : Err e ≡ Ok c = sym (ap (λ r. and_then r (λ c. counted c.0 c.1 qs)) over) ∙ sym (counted-append xs qs 0 0) ∙ is in
     cc

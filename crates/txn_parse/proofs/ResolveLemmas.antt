@@ -1,5 +1,5 @@
 -- The checks of a block, one kind behind the other.
-use Rattle.std.proofs.Common.{◌≡◌, ℕ, ◌<◌, ◌≤◌, Bool, true, false, ◌||◌, ◌&&◌, cond, ltb, List, [], ◌∷◌, ◌++◌, length, Some, None, All, Err, refl, sym, ap, ◌∙◌, subst, arith}
+use Rattle.std.proofs.Common.{◌≡◌, ℕ, ◌<◌, ◌≤◌, Bool, true, false, ◌||◌, ◌&&◌, cond, ltb, List, [], ◌∷◌, ◌++◌, length, Option, Some, None, All, Err, refl, sym, ap, ◌∙◌, subst, arith}
 use Rattle.std.specs.Prelude.{find}
 use Rattle.std.specs.List.{list_all}
 use Rattle.std.specs.Option.{option_or, option_map}
@@ -56,7 +56,8 @@ plain_marks : list_all (λ s. is_plain s.symbol) marks ≡ true
 unfolding marks
 plain_marks = refl
 
-named_by : (k : TokenKind) (bytes : List ℕ) → IsOfKind k bytes → (symbol_by k bytes ≡ symbol.Name) → is_name bytes ≡ true
+-- a token whose symbol is that of names has a name
+pub named_by : (k : TokenKind) (bytes : List ℕ) → IsOfKind k bytes → (symbol_by k bytes ≡ symbol.Name) → is_name bytes ≡ true
 named_by kind.Name bytes of is = of
 named_by kind.Number bytes of is = cc
 named_by kind.Word bytes of is = absurd (plain_in words bytes plain_words is)
@@ -71,30 +72,20 @@ names_in_lexemes text (t ∷ tokens) all =
 pub parsed_keeps : (text : List ℕ) (cs : Commands) → IsParsed text cs → KeepsBlock text DEEPEST_BLOCK cs
 parsed_keeps text cs p = block_keeps p.derived text DEEPEST_BLOCK (omega arith, refl) (names_in_lexemes text p.tokens p.kinds)
 
--- the faults of the three kinds of checks
-module _ (text : List ℕ) (tables : Names) (cs : Commands) (line : ℕ) where
-  pub table_fault : (t : Token) → Some t ≡ find (is_unknown text tables) (tables_of cs) → first_failing (block_checks text tables cs line) ≡ Some (At t.line UnknownTable)
-  table_fault t is =
-      first_failing-append (table_checks text tables cs) (local_checks text [] cs ++ limit_check text tables cs line ∷ [])
-      ∙ ap (λ o. option_or o (first_failing (local_checks text [] cs ++ limit_check text tables cs line ∷ []))) (unknown_failing UnknownTable text tables (tables_of cs) ∙ ap (option_map (λ (t : Token). At t.line UnknownTable)) (sym is))
+map_none : {A B : Type 0} (f : A → B) (o : Option A) → option_map f o ≡ None → o ≡ None
+map_none f None is = refl
+map_none f (Some x) is = cc
 
-  tables_pass : None ≡ find (is_unknown text tables) (tables_of cs) → first_failing (block_checks text tables cs line) ≡ option_or (first_failing (local_checks text [] cs)) (first_failing (limit_check text tables cs line ∷ []))
-  tables_pass is =
-      first_failing-append (table_checks text tables cs) (local_checks text [] cs ++ limit_check text tables cs line ∷ [])
-      ∙ ap (λ o. option_or o (first_failing (local_checks text [] cs ++ limit_check text tables cs line ∷ []))) (unknown_failing UnknownTable text tables (tables_of cs) ∙ ap (option_map (λ (t : Token). At t.line UnknownTable)) (sym is))
-      ∙ first_failing-append (local_checks text [] cs) (limit_check text tables cs line ∷ [])
+-- where no check of the tables fails, all are known
+pub known_tables : (text : List ℕ) (tables : Names) (cs : Commands) → first_failing (table_checks text tables cs) ≡ None → find (is_unknown text tables) (tables_of cs) ≡ None
+known_tables text tables cs none = map_none (λ (t : Token). At t.line UnknownTable) (find (is_unknown text tables) (tables_of cs)) (sym (unknown_failing UnknownTable text tables (tables_of cs)) ∙ none)
 
-  pub local_fault : (B : Type 0) (f : TextFault) → None ≡ find (is_unknown text tables) (tables_of cs) → FaultIs {A = Unit {0}} (local_checks text [] cs) (Err f) → FaultIs {A = B} (block_checks text tables cs line) (Err f)
-  local_fault B (At l k) none is = tables_pass none ∙ ap (λ o. option_or o (first_failing (limit_check text tables cs line ∷ []))) is
-  local_fault B NoMemory none is = tt
-
-  pub limit_fault : None ≡ find (is_unknown text tables) (tables_of cs) → first_failing (local_checks text [] cs) ≡ None → passes_limit text tables cs ≡ true → first_failing (block_checks text tables cs line) ≡ Some (At line ProgramLimit)
-  limit_fault none known past =
-      tables_pass none ∙ ap (λ o. option_or o (first_failing (limit_check text tables cs line ∷ []))) known ∙ ap (λ b. cond b (Some (At line ProgramLimit)) None) past
-
-  pub no_fault : None ≡ find (is_unknown text tables) (tables_of cs) → first_failing (local_checks text [] cs) ≡ None → passes_limit text tables cs ≡ false → first_failing (block_checks text tables cs line) ≡ None
-  no_fault none known past =
-      tables_pass none ∙ ap (λ o. option_or o (first_failing (limit_check text tables cs line ∷ []))) known ∙ ap (λ b. cond b (Some (At line ProgramLimit)) None) past
+-- where the locals are known, the check of the limits decides
+pub limit_decides : (text : List ℕ) (tables : Names) (cs : Commands) (line : ℕ) (b : Bool) → first_failing (local_checks text [] cs) ≡ None → passes_limit text tables cs ≡ b → first_failing (local_checks text [] cs ++ limit_check text tables cs line ∷ []) ≡ cond b (Some (At line ProgramLimit)) None
+limit_decides text tables cs line b known past =
+    first_failing-append (local_checks text [] cs) (limit_check text tables cs line ∷ [])
+    ∙ ap (λ o. option_or o (first_failing (limit_check text tables cs line ∷ []))) known
+    ∙ ap (λ b. cond b (Some (At line ProgramLimit)) None) past
 
 or_true : (a b : Bool) → b ≡ true → (a || b) ≡ true
 or_true true b is = refl

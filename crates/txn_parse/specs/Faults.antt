@@ -1,6 +1,5 @@
 -- The fault of a list of tokens, for any grammar: the first token that is bad or past a limit, or the end of the text.
-use Rattle.std.specs.Prelude.{◌≡◌, ◌⊎◌, ℕ, List, [], ◌∷◌, ◌++◌, length, Ok, Err}
-use Rattle.txn_lang.specs.declared.limits.TheConstants.{DEEPEST_BLOCK, LONGEST_EXPRESSION}
+use Rattle.std.specs.Prelude.{◌≡◌, ◌⊎◌, ℕ, ◌<◌, List, [], ◌∷◌, ◌++◌, length, Option, Some, None, Ok, Err}
 use Rattle.txn_text.specs.declared.faults.FaultKind.{FaultKind}
 use Rattle.txn_text.specs.declared.faults.FaultKind.TheVariants as fault
 use Rattle.txn_text.specs.declared.faults.TextFault.{TextFault}
@@ -8,7 +7,6 @@ use Rattle.txn_text.specs.declared.faults.TextFault.TheVariants.{At}
 use Rattle.txn_parse.specs.Symbols.{Lexeme}
 use Rattle.txn_parse.specs.Tree.{Commands}
 use Rattle.txn_parse.specs.Grammar.{Free, IsBlock}
-use Rattle.txn_parse.specs.Reading.{block_at}
 use Rattle.txn_parse.specs.Laws.{Begins}
 use Rattle.txn_parse.specs.Counts.{counted}
 
@@ -76,10 +74,44 @@ pub record BeginsWithBlock (ls : List Lexeme) : Type 0 where
   pub derived : IsBlock Free front block
   pub within : IsWithinLimits front
 
--- each list of tokens begins with a block within the limits, or has such a fault
-abbrev pub FaultIsDecided : Type 0
-FaultIsDecided = (last : ℕ) (ls : List Lexeme) → BeginsWithBlock ls ⊎ ((f : TextFault) × IsTheFault (IsBlock Free) last ls f)
+-- no block within the limits stands in front, and this is the one fault
+pub record IsRefused (last : ℕ) (ls : List Lexeme) (f : TextFault) : Type 0 where
+  pub none : BeginsWithBlock ls → ⊥
+  pub fault : IsTheFault (IsBlock Free) last ls f
 
--- a list of which no block is read has such a fault
-abbrev pub RefusedIsFaulty : Type 0
-RefusedIsFaulty = (last : ℕ) (ls : List Lexeme) (f : TextFault) → block_at last LONGEST_EXPRESSION DEEPEST_BLOCK ls ≡ Err f → (g : TextFault) × IsTheFault (IsBlock Free) last ls g
+-- each list of tokens begins with a block within the limits, or is refused for its one fault
+abbrev pub FaultIsDecided : Type 0
+FaultIsDecided = (last : ℕ) (ls : List Lexeme) → BeginsWithBlock ls ⊎ ((f : TextFault) × IsRefused last ls f)
+
+-- tokens in front behind which no block is open
+pub record IsClosed (ls cut : List Lexeme) : Type 0 where
+  pub rest : List Lexeme
+  pub run : ℕ
+  pub split : ls ≡ cut ++ rest
+  pub some : 0 < length cut
+  pub counts : counted 0 0 cut ≡ Ok (0, run)
+
+-- tokens in front that end with the first past a limit
+pub record IsPassed (ls cut : List Lexeme) (limit : TextFault) : Type 0 where
+  pub front : List Lexeme
+  pub token : Lexeme
+  pub rest : List Lexeme
+  pub kind : FaultKind
+  pub split : ls ≡ front ++ token ∷ rest
+  pub whole : cut ≡ front ++ token ∷ []
+  pub within : IsWithinLimits front
+  pub past : counted 0 0 (front ++ token ∷ []) ≡ Err (token, kind)
+  pub place : limit ≡ At token.token.line kind
+
+-- the tokens that tell what block stands in front: up to the one that leaves no block open, or up to the first past a
+-- limit, with its fault, or all of them
+pub data IsCut (ls cut : List Lexeme) : Option TextFault → Type 0 where
+  closed : IsClosed ls cut → IsCut ls cut None
+  passed : (limit : TextFault) → IsPassed ls cut limit → IsCut ls cut (Some limit)
+  all : ls ≡ cut → IsWithinLimits ls → IsCut ls cut None
+
+-- the limit's fault, or that of the text's end in its last line, where reading came to the end of such tokens
+abbrev pub placed : ℕ → Option TextFault → TextFault → TextFault
+placed last (Some limit) (At line fault.EndOfText) = limit
+placed last None (At line fault.EndOfText) = At last fault.EndOfText
+placed last limit f = f

@@ -39,7 +39,7 @@ pub use blocks::read_block;
 pub use limits::first_past;
 pub use name_index::NameIndex;
 pub use program::{fault_laws, grammar_laws, last_line, parse_prog};
-pub use resolve::resolve_prog;
+pub use resolve::{bind_prog, check_tables, resolve_prog};
 pub use statements::separator;
 pub use symbols::{Symbol, is, symbol_of};
 pub use tokens::{syntax, take};

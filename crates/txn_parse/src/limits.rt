@@ -1,11 +1,11 @@
-ghost use Rattle.std.specs.Prelude.{◌≡◌, MatchOption};
+ghost use Rattle.std.specs.Prelude.{◌≡◌, ◌≤◌, length, MatchOption};
 ghost use Rattle.txn_parse.specs.Symbols.{Lexeme, lexemes};
 ghost use Rattle.txn_parse.specs.Counts.{in_expression, one_counted, told};
-ghost use Rattle.txn_parse.specs.Faults.{IsWithinLimits, IsFirstPast};
+ghost use Rattle.txn_parse.specs.Faults.{IsWithinLimits, IsFirstPast, IsCut};
 
 use crate::symbols::{Symbol, symbol_of};
 use txn_lang::{DEEPEST_BLOCK, LONGEST_EXPRESSION};
-use txn_text::{FaultKind, Token};
+use txn_text::{FaultKind, TextFault, Token};
 
 /// How many blocks are open, and how many tokens of expressions stand in a row.
 #[derive(Clone, Copy, Debug, PartialEq, Eq)]
@@ -65,4 +65,27 @@ pub fn first_past(text: &[u8], toks: &[Token]) -> Option<(usize, FaultKind)>
         }
     }
     None
+}
+
+/// The tokens that tell what block stands in front: up to the one that leaves no block open, or up to the first past a
+/// limit, with its fault, or all of them.
+pub fn block_front<'a>(text: &[u8], toks: &'a [Token]) -> (&'a [Token], Option<TextFault>)
+    ensures cut { IsCut (lexemes text.now toks.now) (lexemes text.now result.0.now) result.1 }
+    ensures no_longer { length result.0.now ≤ length toks.now }
+{
+    let mut count = Count { depth: 0, run: 0 };
+    for (at, token) in toks.iter().enumerate() {
+        match counted(count, symbol_of(text, *token)) {
+            Ok(next) if next.depth == 0 => return (&toks[..at + 1], None),
+            Ok(next) => count = next,
+            Err(kind) => {
+                let limit = TextFault::At {
+                    line: token.line,
+                    kind,
+                };
+                return (&toks[..at + 1], Some(limit));
+            }
+        }
+    }
+    (toks, None)
 }

@@ -28,7 +28,7 @@ take_locals_in-returns-in_err-check_used-in-Write-clause-fault t c =
     let e = term c.in-Write.e in
     let f = c.in_err-check_used-in-Write.field-0.0 in
     rw (p.1, p.2) (of_stmt text c.args.names.now c.args.stmt.now (Write c.in-Write.field-0 i e) (Err f) (ap command c.in-Write.is ∙ command-Write c.in-Write.field-0 c.in-Write.index c.in-Write.e)
-    (first_fault (used_checks text c.args.names.now i) (used_checks text c.args.names.now e) f (on_loan text c.args.names.now c.as_slice-in-Write.result.now i (Err f) c.as_slice-in-Write.ensures c.in_err-check_used-in-Write.ensures)))
+    (first_fault (Unit {0}) (Unit {0}) (used_checks text c.args.names.now i) (used_checks text c.args.names.now e) f (on_loan text c.args.names.now c.as_slice-in-Write.result.now i (Err f) c.as_slice-in-Write.ensures c.in_err-check_used-in-Write.ensures)))
 
 pub take_locals_in-returns-in_ok-check_used-in-Write-clause-fault : goal.take_locals_in-returns-in_ok-check_used-in-Write-clause-fault
 take_locals_in-returns-in_ok-check_used-in-Write-clause-fault t c =
@@ -37,7 +37,7 @@ take_locals_in-returns-in_ok-check_used-in-Write-clause-fault t c =
     let e = term c.in-Write.e in
     let none = ap (λ ns. first_failing (used_checks text ns i)) (sym c.as_slice-in-Write.ensures) ∙ c.in_ok-check_used-in-Write.ensures in
     of_stmt text c.args.names.now c.args.stmt.now (Write c.in-Write.field-0 i e) c.check_used-in-Write-2.result (ap command c.in-Write.is ∙ command-Write c.in-Write.field-0 c.in-Write.index c.in-Write.e)
-    (later_fault (used_checks text c.args.names.now i) (used_checks text c.args.names.now e) c.check_used-in-Write-2.result none (on_loan text c.args.names.now c.as_slice-in-Write-2.result.now e c.check_used-in-Write-2.result c.as_slice-in-Write-2.ensures c.check_used-in-Write-2.ensures))
+    (later_fault (Unit {0}) (used_checks text c.args.names.now i) (used_checks text c.args.names.now e) c.check_used-in-Write-2.result none (on_loan text c.args.names.now c.as_slice-in-Write-2.result.now e c.check_used-in-Write-2.result c.as_slice-in-Write-2.ensures c.check_used-in-Write-2.ensures))
 
 pub take_locals_in-returns-in_err-check_used-in-If-clause-fault : goal.take_locals_in-returns-in_err-check_used-in-If-clause-fault
 take_locals_in-returns-in_err-check_used-in-If-clause-fault t c =
@@ -49,7 +49,7 @@ take_locals_in-returns-in_err-check_used-in-If-clause-fault t c =
     let b = commands c.in-If.b in
     let f = c.in_err-check_used-in-If.field-0.0 in
     rw (p.1, p.2) (of_stmt text names c.args.stmt.now (If e a b) (Err f) (ap command c.in-If.is ∙ command-If c.in-If.e c.in-If.a c.in-If.b)
-    (first_fault (used_checks text names e) (local_checks text names a ++ local_checks text (names_after text a names) b) f (on_loan text names c.as_slice-in-If.result.now e (Err f) c.as_slice-in-If.ensures c.in_err-check_used-in-If.ensures)))
+    (first_fault (Unit {0}) (Unit {0}) (used_checks text names e) (local_checks text names a ++ local_checks text (names_after text a names) b) f (on_loan text names c.as_slice-in-If.result.now e (Err f) c.as_slice-in-If.ensures c.in_err-check_used-in-If.ensures)))
 
 pub take_locals_in-returns-in_err-take_locals-in-If-clause-fault : goal.take_locals_in-returns-in_err-take_locals-in-If-clause-fault
 take_locals_in-returns-in_err-take_locals-in-If-clause-fault t c =
@@ -62,8 +62,8 @@ take_locals_in-returns-in_err-take_locals-in-If-clause-fault t c =
     let f = c.in_err-take_locals-in-If.field-0.0 in
     let none = ap (λ ns. first_failing (used_checks text ns e)) (sym c.as_slice-in-If.ensures) ∙ c.in_ok-check_used-in-If.ensures in
     rw (p.1, p.2) (of_stmt text names c.args.stmt.now (If e a b) (Err f) (ap command c.in-If.is ∙ command-If c.in-If.e c.in-If.a c.in-If.b)
-    (later_fault (used_checks text names e) (local_checks text names a ++ local_checks text (names_after text a names) b) (Err f) none
-    (first_fault (local_checks text names a) (local_checks text (names_after text a names) b) f c.in_err-take_locals-in-If.ensures.fault)))
+    (later_fault (Unit {0}) (used_checks text names e) (local_checks text names a ++ local_checks text (names_after text a names) b) (Err f) none
+    (first_fault (Unit {0}) (Unit {0}) (local_checks text names a) (local_checks text (names_after text a names) b) f c.in_err-take_locals-in-If.ensures.fault)))
 
 pub take_locals_in-returns-in_ok-take_locals-in-If-clause-fault : goal.take_locals_in-returns-in_ok-take_locals-in-If-clause-fault
 take_locals_in-returns-in_ok-take_locals-in-If-clause-fault t c =
@@ -75,8 +75,8 @@ take_locals_in-returns-in_ok-take_locals-in-If-clause-fault t c =
     let r = c.take_locals-in-If.result in
     let none = ap (λ ns. first_failing (used_checks text ns e)) (sym c.as_slice-in-If.ensures) ∙ c.in_ok-check_used-in-If.ensures in
     of_stmt text names c.args.stmt.now (If e a b) r (ap command c.in-If.is ∙ command-If c.in-If.e c.in-If.a c.in-If.b)
-    (later_fault (used_checks text names e) (local_checks text names a ++ local_checks text (names_after text a names) b) r none
-    (later_fault (local_checks text names a) (local_checks text (names_after text a names) b) r c.in_ok-take_locals-in-If.ensures.fault
+    (later_fault (Unit {0}) (used_checks text names e) (local_checks text names a ++ local_checks text (names_after text a names) b) r none
+    (later_fault (Unit {0}) (local_checks text names a) (local_checks text (names_after text a names) b) r c.in_ok-take_locals-in-If.ensures.fault
     (subst (λ ns. Told (local_checks text ns b) r) c.in_ok-take_locals-in-If.ensures.names c.take_locals-in-If.ensures.fault)))
 
 pub take_locals_in-returns-in_ok-add_target-in-Let-clause-fault : goal.take_locals_in-returns-in_ok-add_target-in-Let-clause-fault
