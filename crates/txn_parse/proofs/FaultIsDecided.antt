@@ -12,9 +12,9 @@ use Rattle.txn_parse.specs.Symbols.{Lexeme, lexeme}
 use Rattle.txn_parse.specs.Tree.{Commands}
 use Rattle.txn_parse.specs.Grammar.{Limits, Free, Within, IsBlock, braced}
 use Rattle.txn_parse.specs.Reading.{Found, syntax_at, block_from}
-use Rattle.txn_parse.specs.Laws.{Begins, IsFirstBad}
+use Rattle.txn_parse.specs.Laws.{Begins}
 use Rattle.txn_parse.specs.Counts.{Counts, one_counted, and_then, counted}
-use Rattle.txn_parse.specs.Faults.{IsWithinLimits, IsTheFault, bad, past, ended, BeginsWithBlock, IsRefused, FaultIsDecided, IsClosed, IsPassed, IsCut, closed, passed, all, placed}
+use Rattle.txn_parse.specs.Faults.{IsWithinLimits, bad, past, ended, BeginsWithBlock, IsRefused, FaultIsDecided, IsPassed, IsCut, closed, passed, all, placed}
 use Rattle.txn_parse.proofs.CountsLemmas.{counted-append, parts, limits_are_counts}
 use Rattle.txn_parse.proofs.FirstPast.{first_past_of}
 use Rattle.txn_parse.proofs.FreeBlocks.{free_found, free_first_bad, reads_free}
@@ -148,10 +148,10 @@ end_refused last ls cut None (all same within) none begun =
     record {
       none = none_by ls cut [] (same ∙ sym (append-nil cut)) none (λ l more _ _ rest is. cc);
       fault = ended (record {
-          within = within;
-          proper = λ b d. none b [] (ap (block_from 0) (sym same ∙ sym (append-nil ls)) ∙ reads_free 0 ls [] b d);
-          begun = subst (Begins (IsBlock Free)) (sym same) begun;
-          place = refl;
+        within = within;
+        proper = λ b d. none b [] (ap (block_from 0) (sym same ∙ sym (append-nil ls)) ∙ reads_free 0 ls [] b d);
+        begun = subst (Begins (IsBlock Free)) (sym same) begun;
+        place = refl;
       });
     }
 end_refused last ls cut _ (passed limit p) none begun =

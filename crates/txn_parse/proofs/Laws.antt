@@ -1,10 +1,7 @@
 -- The laws of the reading of whole blocks.
-use Rattle.std.proofs.Common.{◌≡◌, ℕ, List, [], ◌++◌, Ok, Err, sym, ap, ◌∙◌}
-use Rattle.std.proofs.lemmas.List.{append-nil}
-use Rattle.txn_parse.specs.Symbols.{Lexeme}
+use Rattle.std.proofs.Common.{[], Ok, Err, sym, ap, ◌∙◌}
 use Rattle.txn_parse.specs.Tree.{Commands, End}
-use Rattle.txn_parse.specs.Grammar.{Free, IsBlock}
-use Rattle.txn_parse.specs.Reading.{Found, block_from}
+use Rattle.txn_parse.specs.Reading.{Found}
 use Rattle.txn_parse.specs.Laws.{FoundIsDerived, DerivedIsFound, HasOneTree, FaultIsFirst}
 use Rattle.txn_parse.proofs.LimitsLemmas.{free_block}
 use Rattle.txn_parse.proofs.FreeBlocks.{free_found, free_first_bad, reads_free}

@@ -1,5 +1,5 @@
 -- Behind each token of a block but its last, a block is open.
-use Rattle.std.proofs.Common.{◌≡◌, ◌⊎◌, ℕ, zero, suc, ◌+◌, ◌-◌, ◌<◌, ◌≤◌, Bool, true, false, ltb, cond, List, [], ◌∷◌, ◌++◌, length, Ok, Err, refl, sym, ap, ◌∙◌, subst, arith, inl, inr, ⊎_elim}
+use Rattle.std.proofs.Common.{◌≡◌, ◌⊎◌, ℕ, ◌+◌, ◌-◌, ◌<◌, ◌≤◌, Bool, true, false, ltb, cond, List, [], ◌∷◌, ◌++◌, length, Ok, Err, refl, sym, ap, ◌∙◌, arith, inl, inr, ⊎_elim}
 use Rattle.std.proofs.lemmas.List.{append_assoc, append-nil, append_cancel_left}
 use Rattle.std.proofs.lemmas.Bool.{cond_both}
 use Rattle.txn_lang.specs.declared.limits.TheConstants.{DEEPEST_BLOCK, LONGEST_EXPRESSION}
@@ -9,8 +9,8 @@ use Rattle.txn_parse.specs.declared.symbols.Symbol.TheVariants as symbol
 use Rattle.txn_parse.specs.Symbols.{Lexeme, lexeme}
 use Rattle.txn_parse.specs.Tree.{Term, Command, Commands}
 use Rattle.txn_parse.specs.Grammar.{Limits, IsOutermost, IsStmt, sets, reads, writes, prints, chooses, chooses_else, repeats, aborts, IsBlock, braced, IsStmts, last, last_ended, more}
-use Rattle.txn_parse.specs.Counts.{in_expression, Counts, one_counted, and_then, counted}
-use Rattle.txn_parse.proofs.CountsLemmas.{AllIn, all_in, then_ok, parts, same_ok, opened}
+use Rattle.txn_parse.specs.Counts.{in_expression, one_counted, and_then, counted}
+use Rattle.txn_parse.proofs.CountsLemmas.{AllIn, all_in, then_ok, parts, same_ok}
 
 tail_of : List Lexeme → List Lexeme
 tail_of [] = []

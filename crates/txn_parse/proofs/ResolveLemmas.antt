@@ -1,5 +1,5 @@
 -- The checks of a block, one kind behind the other.
-use Rattle.std.proofs.Common.{◌≡◌, ℕ, ◌<◌, ◌≤◌, Bool, true, false, ◌||◌, ◌&&◌, cond, ltb, List, [], ◌∷◌, ◌++◌, length, Option, Some, None, All, Err, refl, sym, ap, ◌∙◌, subst, arith}
+use Rattle.std.proofs.Common.{◌≡◌, ℕ, ◌<◌, ◌≤◌, Bool, true, false, ◌||◌, ◌&&◌, cond, ltb, List, [], ◌∷◌, ◌++◌, length, Option, Some, None, All, refl, sym, ap, ◌∙◌, subst, arith}
 use Rattle.std.specs.Prelude.{find}
 use Rattle.std.specs.List.{list_all}
 use Rattle.std.specs.Option.{option_or, option_map}
@@ -16,15 +16,14 @@ use Rattle.txn_text.specs.declared.kinds.Token.{Token}
 use Rattle.txn_text.specs.declared.kinds.TokenKind.{TokenKind}
 use Rattle.txn_text.specs.declared.kinds.TokenKind.TheVariants as kind
 use Rattle.txn_text.specs.declared.faults.FaultKind.TheVariants.{UnknownTable, ProgramLimit}
-use Rattle.txn_text.specs.declared.faults.TextFault.{TextFault}
-use Rattle.txn_text.specs.declared.faults.TextFault.TheVariants.{At, NoMemory}
+use Rattle.txn_text.specs.declared.faults.TextFault.TheVariants.{At}
 use Rattle.txn_text.specs.Tokens.{token_bytes}
 use Rattle.txn_text.specs.Kinds.{IsOfKind}
 use Rattle.txn_parse.specs.declared.symbols.Symbol.{Symbol}
 use Rattle.txn_parse.specs.declared.symbols.Symbol.TheVariants as symbol
 use Rattle.txn_parse.specs.Symbols.{Sign, words, marks, symbol_in, symbol_by, lexemes}
 use Rattle.txn_parse.specs.Tree.{Commands}
-use Rattle.txn_parse.specs.Binding.{first_failing, Names, is_unknown, tables_of, local_checks, most_times, names_of, bound, bound_body, passes_limit, table_checks, limit_check, block_checks, IsParsed, FaultIs}
+use Rattle.txn_parse.specs.Binding.{first_failing, Names, is_unknown, tables_of, local_checks, most_times, names_of, bound, bound_body, passes_limit, table_checks, limit_check, IsParsed}
 use Rattle.txn_parse.proofs.NamesLemmas.{first_failing-append, unknown_failing}
 use Rattle.txn_parse.proofs.BoundForm.{NamesIn, KeepsBlock, block_keeps}
 use Rattle.txn_parse.proofs.BoundPrograms.{well_formed, within_limits}

@@ -9,7 +9,7 @@ use Rattle.txn_parse.specs.declared.tree.RawBlock.{RawBlock}
 use Rattle.txn_parse.specs.Tree.{Commands, commands}
 use Rattle.txn_parse.specs.Symbols.{Lexeme, lexemes}
 use Rattle.txn_parse.specs.Grammar.{Within, IsBlock}
-use Rattle.txn_parse.specs.Reading.{Found, block_from}
+use Rattle.txn_parse.specs.Reading.{block_from}
 use Rattle.txn_parse.specs.Faults.{IsRefused, IsCut, placed}
 use Rattle.txn_parse.specs.Gives.{Gives, last_line, IsBlockFault}
 use Rattle.txn_parse.proofs.FaultIsDecided.{cut_found, cut_refused}

@@ -1,8 +1,7 @@
-use Rattle.std.proofs.Common.{◌∷◌, [], ◌++◌}
 use Rattle.std.proofs.lemmas.Result.{err_from_is_err_and}
 use Rattle.txn_lang.specs.Program.{Program}
 use Rattle.txn_parse.specs.Tree.{commands}
-use Rattle.txn_parse.specs.Binding.{table_checks, local_checks, limit_check}
+use Rattle.txn_parse.specs.Binding.{table_checks}
 use Rattle.txn_parse.proofs.NamesLemmas.{first_fault, later_fault}
 use Rattle.txn_parse.proofs.resolve.resolve_prog.Goals as goal
 
