@@ -9,6 +9,7 @@ pub mod SoundBlocks
 pub mod CompleteExpr
 pub mod CompleteBlocks
 pub mod CountsLemmas
+pub mod PartLemmas
 pub mod FirstPast
 pub mod LevelLemmas
 pub mod TokenCounts
