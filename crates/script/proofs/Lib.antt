@@ -15,3 +15,12 @@ pub mod GroupLemmas
 pub mod ListedLemmas
 pub mod StageTwo
 pub mod TextLemmas
+pub mod SayLemmas
+pub mod SaySettings
+pub mod SayStores
+pub mod SayPrograms
+pub mod SayClients
+pub mod SayPlans
+pub mod SayItems
+pub mod CanonicalPieces
+pub mod CanonicalIsSaid

@@ -15,6 +15,7 @@ use Rattle.script.specs.declared.setup.Txn.{Txn}
 use Rattle.script.specs.declared.setup.Net.TheVariants as net
 use Rattle.script.specs.declared.setup.Setup.{Setup}
 use Rattle.net_core.specs.declared.plan.PlanItem.{PlanItem}
+use Rattle.script.specs.Meaning.{named_of, said_by, Named}
 use Rattle.script.specs.Canonical.{txn_pieces, more_txns, first_txns, client_line, client_lines, setting_lines, table_line, first_line, program_line, program_names, net_line, plan_line, setting_line, script_lines, canonical_script}
 
 module _ (programs : Names) where
@@ -65,6 +66,24 @@ pub net_printed :
     printed e (setting_line (codes "hurry") h) ≡ printed p (net_line (net.Seeded seed late again hurry))
 net_printed p a b d e seed late again hurry l g h t1 t2 t3 e1 e2 e3 e4 = cc
 
+-- a program as it is said
+pub names_said : (progs : List NamedProg) → program_names progs ≡ map (λ (p : Named). p.name) (map named_of progs)
+names_said [] = refl
+names_said (p ∷ ps) = ap (λ (l : Names). p.name ∷ l) (names_said ps)
+
+module _ (tables : Names) (progs : List NamedProg) where
+  -- a line was printed for one more program
+  pub one_program : (i : ℕ) (x : NamedProg) (p q : Printer) → i < length progs → x ≡ get_or progs i x → q ≡ with_line (printed p (program_line tables (named_of x))) →
+      lines_printed q (map (program_line tables) (map named_of (drop (i + 1) progs))) ≡ lines_printed p (map (program_line tables) (map named_of (drop i progs)))
+  one_program i x p q within is next =
+      let split : drop i progs ≡ x ∷ drop (suc i) progs = drop-cons progs i x within ∙ ap (λ (y : NamedProg). y ∷ drop (suc i) progs) (sym is) in
+      ap (λ (n : ℕ). lines_printed q (map (program_line tables) (map named_of (drop n progs)))) (add-one i)
+      ∙ ap (λ (s : Printer). lines_printed s (map (program_line tables) (map named_of (drop (suc i) progs)))) next
+      ∙ ap (λ (l : List NamedProg). lines_printed p (map (program_line tables) (map named_of l))) (sym split)
+
+  pub all_programs : (i : ℕ) (p : Printer) → length progs ≤ i → lines_printed p (map (program_line tables) (map named_of (drop i progs))) ≡ p
+  all_programs i p over = ap (λ (l : List NamedProg). lines_printed p (map (program_line tables) (map named_of l))) (drop_all i progs over)
+
 -- lines behind others
 goes_on : (p q s : Printer) (xs ys : List (List Piece)) → q ≡ lines_printed p xs → s ≡ lines_printed q ys → s ≡ lines_printed p (xs ++ ys)
 goes_on p q s xs ys first second = second ∙ ap (λ (x : Printer). lines_printed x ys) first ∙ sym (lines_printed_append p xs ys)
@@ -74,22 +93,22 @@ pub script_printed :
     (s : Setup) (tables : Names) (firsts : List First) (progs named : List NamedProg) (clients : List (List Txn)) (plan : List PlanItem)
     (p a b d e f g h i j k : Printer) →
     tables ≡ s.tables → firsts ≡ s.firsts → progs ≡ s.progs → named ≡ s.progs → clients ≡ s.clients → plan ≡ s.plan →
-    p ≡ record { text = []; joined = true } → a ≡ lines_printed p (setting_lines s) → b ≡ lines_printed a (map table_line tables) → d ≡ lines_printed b (map (first_line tables) firsts) →
-    e ≡ lines_printed d (map (program_line tables) progs) → f ≡ lines_printed e (client_lines (program_names named) 1 clients) → g ≡ printed f (net_line s.net) → h ≡ with_line g →
+    p ≡ record { text = []; joined = true } → a ≡ lines_printed p (setting_lines (said_by s)) → b ≡ lines_printed a (map table_line tables) → d ≡ lines_printed b (map (first_line tables) firsts) →
+    e ≡ lines_printed d (map (program_line tables) (map named_of progs)) → f ≡ lines_printed e (client_lines (program_names named) 1 clients) → g ≡ printed f (net_line s.net) → h ≡ with_line g →
     i ≡ lines_printed h (map plan_line plan) → j ≡ with_piece i (Word (codes "end")) → k ≡ with_line j → k.text ≡ canonical_script s
 script_printed s tables firsts progs named clients plan p a b d e f g h i j k t1 t2 t3 t4 t5 t6 start e1 e2 e3 e4 e5 e6 e7 e8 e9 e10 =
-    let L1 = setting_lines s in
+    let L1 = setting_lines (said_by s) in
     let L2 = map table_line s.tables in
     let L3 = map (first_line s.tables) s.firsts in
-    let L4 = map (program_line s.tables) s.progs in
-    let L5 = client_lines (program_names s.progs) 1 s.clients in
+    let L4 = map (program_line s.tables) (map named_of s.progs) in
+    let L5 = client_lines (map (λ (p : Named). p.name) (map named_of s.progs)) 1 s.clients in
     let L6 : List (List Piece) = net_line s.net ∷ [] in
     let L7 = map plan_line s.plan in
     let L8 : List (List Piece) = (Word (codes "end") ∷ []) ∷ [] in
     let s2 : b ≡ lines_printed a L2 = e2 ∙ ap (λ (l : Names). lines_printed a (map table_line l)) t1 in
     let s3 : d ≡ lines_printed b L3 = e3 ∙ ap (λ (l : List First). lines_printed b (map (first_line tables) l)) t2 ∙ ap (λ (l : Names). lines_printed b (map (first_line l) s.firsts)) t1 in
-    let s4 : e ≡ lines_printed d L4 = e4 ∙ ap (λ (l : List NamedProg). lines_printed d (map (program_line tables) l)) t3 ∙ ap (λ (l : Names). lines_printed d (map (program_line l) s.progs)) t1 in
-    let s5 : f ≡ lines_printed e L5 = e5 ∙ ap (λ (l : List NamedProg). lines_printed e (client_lines (program_names l) 1 clients)) t4 ∙ ap (λ (l : List (List Txn)). lines_printed e (client_lines (program_names s.progs) 1 l)) t5 in
+    let s4 : e ≡ lines_printed d L4 = e4 ∙ ap (λ (l : List NamedProg). lines_printed d (map (program_line tables) (map named_of l))) t3 ∙ ap (λ (l : Names). lines_printed d (map (program_line l) (map named_of s.progs))) t1 in
+    let s5 : f ≡ lines_printed e L5 = e5 ∙ ap (λ (l : List NamedProg). lines_printed e (client_lines (program_names l) 1 clients)) t4 ∙ ap (λ (l : List (List Txn)). lines_printed e (client_lines (program_names s.progs) 1 l)) t5 ∙ ap (λ (l : Names). lines_printed e (client_lines l 1 s.clients)) (names_said s.progs) in
     let s6 : h ≡ lines_printed f L6 = e7 ∙ ap with_line e6 in
     let s7 : i ≡ lines_printed h L7 = e8 ∙ ap (λ (l : List PlanItem). lines_printed h (map plan_line l)) t6 in
     let s8 : k ≡ lines_printed i L8 = e10 ∙ ap with_line e9 in
@@ -99,5 +118,5 @@ script_printed s tables firsts progs named clients plan p a b d e f g h i j k t1
     let c5 = goes_on p e f (L1 ++ L2 ++ L3 ++ L4) L5 c4 s5 in
     let c6 = goes_on p f h (L1 ++ L2 ++ L3 ++ L4 ++ L5) L6 c5 s6 in
     let c7 = goes_on p h i (L1 ++ L2 ++ L3 ++ L4 ++ L5 ++ L6) L7 c6 s7 in
-    let c8 : k ≡ lines_printed p (script_lines s) = goes_on p i k (L1 ++ L2 ++ L3 ++ L4 ++ L5 ++ L6 ++ L7) L8 c7 s8 in
-    ap (λ (x : Printer). x.text) (c8 ∙ ap (λ (x : Printer). lines_printed x (script_lines s)) start) ∙ text_lines (record { text = []; joined = true }) (script_lines s) refl
+    let c8 : k ≡ lines_printed p (script_lines (said_by s)) = goes_on p i k (L1 ++ L2 ++ L3 ++ L4 ++ L5 ++ L6 ++ L7) L8 c7 s8 in
+    ap (λ (x : Printer). x.text) (c8 ∙ ap (λ (x : Printer). lines_printed x (script_lines (said_by s))) start) ∙ text_lines (record { text = []; joined = true }) (script_lines (said_by s)) refl

@@ -1,4 +1,4 @@
--- The canonical text of a setup: its items, one on each line.
+-- The canonical text of a script: its items, one on each line.
 use Rattle.std.specs.Prelude.{ℕ, suc, ◌+◌, List, [], ◌∷◌, ◌++◌, map, codes, ℤ, pos, negsuc}
 use Rattle.morty_base.specs.declared.names.Version.{Version}
 use Rattle.morty_base.specs.declared.names.NodeId.{NodeId}
@@ -9,7 +9,7 @@ use Rattle.net_core.specs.declared.plan.PlanItem.{PlanItem}
 use Rattle.net_core.specs.declared.plan.PlanWhat.{PlanWhat}
 use Rattle.net_core.specs.declared.plan.PlanWhat.TheVariants as what
 use Rattle.txn_print.specs.Piece.{Piece, Word, Name, Number, Symbol, Sign, lines_text}
-use Rattle.txn_print.specs.Canonical.{Names, name_at, in_braces, program_pieces}
+use Rattle.txn_print.specs.Canonical.{Names, name_at, in_braces, block_pieces}
 use Rattle.script.specs.declared.setup.Policy.{Policy}
 use Rattle.script.specs.declared.setup.Policy.TheVariants as policy
 use Rattle.script.specs.declared.setup.First.{First}
@@ -18,6 +18,7 @@ use Rattle.script.specs.declared.setup.Txn.{Txn}
 use Rattle.script.specs.declared.setup.Net.{Net}
 use Rattle.script.specs.declared.setup.Net.TheVariants as net
 use Rattle.script.specs.declared.setup.Setup.{Setup}
+use Rattle.script.specs.Meaning.{Named, Script, prog_names, said_by}
 
 -- a line of a setting
 abbrev pub setting_line : List ℕ → ℕ → List Piece
@@ -39,8 +40,8 @@ abbrev pub first_line : Names → First → List Piece
 first_line tables f =
     Word (codes "first") ∷ name_at tables f.key.table ∷ Symbol (codes "[") ∷ (signed_pieces f.key.index ++ Symbol (codes "]") ∷ signed_pieces f.value)
 
-abbrev pub program_line : Names → NamedProg → List Piece
-program_line tables p = Word (codes "program") ∷ Name p.name ∷ program_pieces tables p.prog
+abbrev pub program_line : Names → Named → List Piece
+program_line tables p = Word (codes "program") ∷ Name p.name ∷ block_pieces tables p.locals p.body
 
 -- a transaction, by the name of its program; its time is always written
 abbrev pub txn_pieces : Names → Txn → List Piece
@@ -106,11 +107,12 @@ plan_by node entry = entry_line node entry
 abbrev pub plan_line : PlanItem → List Piece
 plan_line item = plan_by item.node item.what
 
+-- the names of programs
 abbrev pub program_names : List NamedProg → Names
 program_names progs = map (λ p. p.name) progs
 
 -- the lines before the tables: the version, and all settings
-abbrev pub setting_lines : Setup → List (List Piece)
+abbrev pub setting_lines : Script → List (List Piece)
 setting_lines s =
     setting_line (codes "morty") 1 ∷
     setting_line (codes "replicas") s.replicas ∷
@@ -121,18 +123,21 @@ setting_lines s =
     setting_line (codes "turns") s.turns ∷
     policy_line s.policy ∷ []
 
--- the lines of a setup
-abbrev pub script_lines : Setup → List (List Piece)
+-- the lines of a script
+abbrev pub script_lines : Script → List (List Piece)
 script_lines s =
     setting_lines s
     ++ map table_line s.tables
     ++ map (first_line s.tables) s.firsts
     ++ map (program_line s.tables) s.progs
-    ++ client_lines (program_names s.progs) 1 s.clients
+    ++ client_lines (prog_names s) 1 s.clients
     ++ net_line s.net ∷ []
     ++ map plan_line s.plan
     ++ (Word (codes "end") ∷ []) ∷ []
 
--- the canonical text of a setup
+-- the canonical text of a script, and of a setup
+abbrev pub canonical : Script → List ℕ
+canonical s = lines_text (script_lines s)
+
 abbrev pub canonical_script : Setup → List ℕ
-canonical_script s = lines_text (script_lines s)
+canonical_script s = canonical (said_by s)

@@ -8,3 +8,5 @@ pub mod Stages
 pub mod Texts
 pub mod Groups
 pub mod Canonical
+pub mod Sayable
+pub mod ReadBack

@@ -3,7 +3,9 @@
 //! The definitions, in the order in which they build on each other: grammars as data (`Rules`) and when the next token
 //! decides what is read (`Fits`); the items of a script (`Items`) and their grammar (`Grammar`); what the items say, one
 //! after another (`Meaning`), and the checks that they pass (`Checks`); what the tokens are in the second stage
-//! (`Stages`), and what a text says: its script or its one fault (`Texts`); and the canonical text of a setup (`Canonical`). `Groups` tells the reader's way.
+//! (`Stages`), and what a text says: its script or its one fault (`Texts`); the canonical text of a script (`Canonical`), the
+//! scripts that some text says (`Sayable`), and that their canonical text says them (`ReadBack`). `Groups` tells the
+//! reader's way.
 //!
 //! The proof: what a rule derives begins as the rule may begin (`Starts`), so a rule that fits is read from each list that
 //! begins with what it derives (`RulesComplete`). What was read is derived, and a fault is at the first token with which
@@ -11,9 +13,14 @@
 //! (`Stopping`). The rules of scripts fit (`GrammarFits`), over the laws of blocks (`BlocksAreRead`). Hence the second
 //! stage is decided (`StageTwo`, `FirstPast`), and a text has one outcome (`OneOutcome`). The code reads by groups
 //! (`GroupLemmas`), lists item by item (`ListedLemmas`), and tokens one by one (`Taking`).
+//!
+//! The lines of a sayable script are pieces with the bytes of their kinds (`CanonicalPieces`). Line by line their tokens are
+//! items that pass their checks and say what they should (`SayLemmas`, then `SaySettings`, `SayStores`, `SayPrograms`,
+//! `SayClients`, `SayPlans`, `SayItems`); so the canonical text says the script (`CanonicalIsSaid`).
 #![tactic(auto)]
 
 ghost use Rattle.script.specs.Texts.{OneOutcome};
+ghost use Rattle.script.specs.ReadBack.{CanonicalIsReadBack};
 
 mod client_text;
 mod clients;
@@ -44,4 +51,9 @@ pub use text::script_text;
 /// Each text says one script or has one fault, and not both.
 pub fn one_outcome()
     ensures { OneOutcome }
+{}
+
+/// The canonical text of a setup that some text says, says that setup and nothing else.
+pub fn canonical_is_read_back()
+    ensures { CanonicalIsReadBack }
 {}

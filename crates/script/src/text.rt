@@ -1,6 +1,9 @@
 ghost use Rattle.std.specs.Prelude.{◌≡◌, ◌∷◌, [], IfOk, OnOk, map};
+ghost use Rattle.script.specs.Meaning.{named_of, said_by};
 ghost use Rattle.txn_print.specs.Printer.{printed, with_line, lines_printed};
 ghost use Rattle.script.specs.Canonical.{signed_pieces, setting_line, setting_lines, policy_line, table_line, first_line, program_line, net_line, canonical_script};
+ghost use Rattle.script.specs.Sayable.{IsSetup};
+ghost use Rattle.script.specs.Texts.{IsSetupOf};
 
 use crate::client_text::print_clients;
 use crate::plan_text::{print_counted, print_plan};
@@ -29,7 +32,7 @@ fn print_policy(out: &mut Printer, policy: Policy) -> Result<(), NoMemory>
 }
 
 fn print_settings(out: &mut Printer, setup: &Setup) -> Result<(), NoMemory>
-    ensures { OnOk result (out.new ≡ lines_printed out.old (setting_lines setup.now)) }
+    ensures { OnOk result (out.new ≡ lines_printed out.old (setting_lines (said_by setup.now))) }
 {
     print_setting(out, b"morty", 1)?;
     print_setting(out, b"replicas", u64::from(setup.replicas))?;
@@ -87,7 +90,7 @@ fn print_programs(
     tables: &[List<u8>],
     progs: &[NamedProg],
 ) -> Result<(), NoMemory>
-    ensures { OnOk result (out.new ≡ lines_printed out.old (map (program_line tables.now) progs.now)) }
+    ensures { OnOk result (out.new ≡ lines_printed out.old (map (program_line tables.now) (map named_of progs.now))) }
 {
     for p in progs {
         out.word(b"program")?;
@@ -119,9 +122,10 @@ fn print_net(out: &mut Printer, net: Net) -> Result<(), NoMemory>
     }
 }
 
-/// The canonical text of a setup. What has no name is printed as nothing.
+/// The canonical text of a setup, which says the setup where some text does. What has no name is printed as nothing.
 pub fn script_text(alloc: Global, setup: &Setup) -> Result<List<u8>, NoMemory>
-    ensures { IfOk result (λ text. text ≡ canonical_script setup.now) }
+    ensures text { IfOk result (λ text. text ≡ canonical_script setup.now) }
+    ensures says { IsSetup setup.now → IfOk result (λ text. IsSetupOf text setup.now) }
 {
     let mut out = Printer::new(alloc);
     let tables = setup.tables.as_slice();

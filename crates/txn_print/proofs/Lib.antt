@@ -9,3 +9,4 @@ pub mod ReadBlocks
 pub mod ReadPrograms
 pub mod PiecesLemmas
 pub mod CanonicalIsRead
+pub mod LinesLaid

@@ -1,0 +1,12 @@
+-- The canonical text of a script is read back.
+use Rattle.std.specs.Prelude.{◌≡◌}
+use Rattle.script.specs.declared.setup.Setup.{Setup}
+use Rattle.script.specs.Meaning.{Script, said_by}
+use Rattle.script.specs.Canonical.{canonical_script}
+use Rattle.script.specs.Sayable.{IsSetup}
+use Rattle.script.specs.Texts.{IsScriptOf, IsSetupOf}
+
+-- the canonical text of a setup that some text says, says it, and nothing else
+pub record CanonicalIsReadBack : Type 0 where
+  pub says : (s : Setup) → IsSetup s → IsSetupOf (canonical_script s) s
+  pub alone : (s : Setup) (t : Script) → IsSetup s → IsScriptOf (canonical_script s) t → t ≡ said_by s
