@@ -1,0 +1,58 @@
+-- What a client that is stood for does on the answers so far.
+use Rattle.std.proofs.Common.{◌≡◌, ◌-◌, Bool, true, false, not, List, Option, Some, None, refl, ap, sym, ◌∙◌, ℤ}
+use Rattle.std.specs.Prelude.{is_some, slice_get, option_map}
+use Rattle.std.proofs.lemmas.Option.{slice_get-map}
+use Rattle.protocol.specs.Client.State as protocol
+use Rattle.protocol.specs.Client.State.{ClientState, Phase, Txn, walk, walk_at, values}
+use Rattle.protocol.specs.Client.State.Phase.{Between, Running, Prepared}
+use Rattle.protocol.specs.Words.{Choice}
+use Rattle.protocol.specs.Client.Step.{on_hurry}
+use Rattle.execution.specs.Execution.{Loaded, walk_of}
+use Rattle.coordinator.specs.declared.memory.Txn2.{Txn2}
+use Rattle.coordinator.specs.declared.memory.Course.{Course}
+use Rattle.coordinator.specs.declared.memory.Ballot.{Ballot}
+use Rattle.coordinator.specs.declared.memory.Stage.{Stage}
+use Rattle.coordinator.specs.declared.memory.Stage.TheVariants as stage
+use Rattle.coordinator.specs.declared.memory.Memory.{Memory}
+use Rattle.coordinator.specs.Memory.{Given, StandsFor, program_of, current, txn_in, phase_of}
+
+-- the program of a transaction does what its walk says
+walk_in : (programs : List Loaded) (o : Option Txn2) (vs : List ℤ) → walk_at (option_map (txn_in programs) o) vs ≡ walk_of (program_of programs o) vs
+walk_in programs None vs = refl
+walk_in programs (Some t) vs = refl
+
+pub walk_is : (g : Given) (c : ClientState) (m : Memory) → StandsFor g c m → (vs : List ℤ) →
+    walk_at (slice_get g.rules.txns (c.begun - 1)) vs ≡ walk_of (current g.programs m.plan m.course.begun) vs
+walk_is g c m s vs =
+    ap (λ (r : protocol.Rules). walk_at (slice_get r.txns (c.begun - 1)) vs) s.rules
+    ∙ ap (λ o. walk_at o vs) (slice_get-map (txn_in g.programs) m.plan.txns (c.begun - 1))
+    ∙ walk_in g.programs (slice_get m.plan.txns (c.begun - 1)) vs
+    ∙ ap (λ n. walk_of (current g.programs m.plan n) vs) (ap (λ (k : Course). k.begun) s.course)
+
+hurries_at : (r : protocol.Rules) (c : ClientState) (b : Ballot) (o : Option Choice) →
+    not (is_some o) ≡ is_some (on_hurry r c (Prepared b.content b.tally.votes o b.accepts))
+unfolding on_hurry
+hurries_at r c b None = refl
+hurries_at r c b (Some d) = refl
+
+-- it can hurry while prepared, until it proposed
+pub hurry_prepared : (g : Given) (c : ClientState) (m : Memory) (b : Ballot) → StandsFor g c m → m.stage ≡ stage.Prepared b →
+    not (is_some b.proposal) ≡ is_some (on_hurry g.rules c c.phase)
+hurry_prepared g c m b s is =
+    hurries_at g.rules c b b.proposal ∙ ap (λ p. is_some (on_hurry g.rules c p)) (sym (s.phase ∙ ap (λ x. phase_of x m.execution) is))
+
+hurries_not : (r : protocol.Rules) (c : ClientState) (m : Memory) (x : Stage) → ((b : Ballot) → x ≡ stage.Prepared b → ⊥) →
+    false ≡ is_some (on_hurry r c (phase_of x m.execution))
+unfolding on_hurry
+hurries_not r c m stage.Between h = refl
+hurries_not r c m (stage.Running given) h = refl
+hurries_not r c m (stage.Prepared b) h = absurd (h b refl)
+
+pub hurry_else : (g : Given) (c : ClientState) (m : Memory) → StandsFor g c m → ((b : Ballot) → m.stage ≡ stage.Prepared b → ⊥) →
+    false ≡ is_some (on_hurry g.rules c c.phase)
+hurry_else g c m s h = hurries_not g.rules c m m.stage h ∙ ap (λ p. is_some (on_hurry g.rules c p)) (sym s.phase)
+
+-- a test is the other way round
+pub turned : (r b : Bool) → b ≡ not r → r ≡ not b
+turned true b e = sym (ap not e)
+turned false b e = sym (ap not e)

@@ -1,0 +1,119 @@
+-- When what a client keeps stands for what the definitions remember.
+use Rattle.std.specs.Prelude.{◌≡◌, ℕ, ◌+◌, ◌-◌, ◌*◌, ◌^◌, ◌≤◌, min, max, false, List, [], map, length, Option, Some, None, slice_get}
+use Rattle.protocol.specs.Words.{Version, Body}
+use Rattle.protocol.specs.declared.Fate.TheVariants.{Live}
+use Rattle.protocol.specs.Client.Attempts.{bumped}
+use Rattle.protocol.specs.Client.State as protocol
+use Rattle.protocol.specs.Client.State.{ClientState, Txn, Turn, Phase}
+use Rattle.protocol.specs.Client.State.Phase.{Between, Running, Prepared}
+use Rattle.execution.specs.Execution as execution
+use Rattle.execution.specs.Execution.{Loaded, walk_of, answers_of, is_pending, fresh_execution}
+use Rattle.execution.specs.declared.execution.Execution.{Execution}
+use Rattle.coordinator.specs.declared.memory.Txn2.{Txn2}
+use Rattle.coordinator.specs.declared.memory.Plan.{Plan}
+use Rattle.coordinator.specs.declared.memory.Course.{Course}
+use Rattle.coordinator.specs.declared.memory.Stage.{Stage}
+use Rattle.coordinator.specs.declared.memory.Stage.TheVariants as stage
+use Rattle.coordinator.specs.declared.memory.Memory.{Memory}
+
+-- what the definitions are given, and the programs by their numbers
+pub record Given : Type 0 where
+  pub rules : protocol.Rules
+  pub programs : List Loaded
+
+-- a transaction, as what its program does
+abbrev pub txn_in : List Loaded → Txn2 → Txn
+txn_in programs t = record { walk = walk_of (slice_get programs t.prog); at = t.at }
+
+-- the rules of a client with this plan
+abbrev pub rules_of : List Loaded → Plan → protocol.Rules
+rules_of programs p = record {
+  client = p.client;
+  replicas = p.rules.replicas;
+  tries = p.rules.tries;
+  execs = p.rules.execs;
+  gap = p.rules.gap;
+  txns = map (txn_in programs) p.txns;
+}
+
+-- the program of a transaction
+abbrev pub program_of : List Loaded → Option Txn2 → Option Loaded
+program_of programs None = None
+program_of programs (Some t) = slice_get programs t.prog
+
+-- the program of the last transaction begun
+abbrev pub current : List Loaded → Plan → ℕ → Option Loaded
+current programs p begun = program_of programs (slice_get p.txns (begun - 1))
+
+-- the limits of a plan
+pub record IsWithinLimits (p : Plan) : Type 0 where
+  pub few : length p.txns ≤ 64
+  pub starts : (i : ℕ) (t : Txn2) → slice_get p.txns i ≡ Some t → t.at ≤ 1000000000000
+  pub replicas : p.rules.replicas ≤ 5
+  pub tries : p.rules.tries ≤ 8
+  pub execs : p.rules.execs ≤ 64
+  pub gap : p.rules.gap ≤ 1000000
+
+-- how far a client within the limits can have come
+pub record IsWithin (p : Plan) (k : Course) : Type 0 where
+  pub begun : k.begun ≤ length p.txns
+  pub attempt : k.attempt ≤ 8
+  pub ts : k.exec.ver.ts ≤ 1000008000000 + 8 * k.begun + k.attempt
+
+-- how far a client of the definitions has come
+abbrev pub course_of : ClientState → Course
+course_of c = record { begun = c.begun; attempt = c.try; exec = c.exec; serial = c.serial; fate = c.fate }
+
+-- the phase at a stage of an execution
+abbrev pub phase_of : Stage → Execution → Phase
+phase_of stage.Between e = Between
+phase_of (stage.Running given) e = Running (is_pending e) given
+phase_of (stage.Prepared b) e = Prepared b.content b.tally.votes b.proposal b.accepts
+
+-- next labels are there while an execution is prepared alone, which has ended and is voted on by all replicas
+abbrev pub Holds : Plan → Stage → Execution → Type 0
+Holds p stage.Between e = Unit {0}
+Holds p (stage.Running given) e = e.nexts ≡ []
+Holds p (stage.Prepared b) e = (is_pending e ≡ false) × (b.tally.replicas ≡ p.rules.replicas)
+
+-- what is kept stands for what the definitions remember, but for the decisions and attempts, which no rule reads
+pub record StandsFor (g : Given) (c : ClientState) (m : Memory) : Type 0 where
+  pub rules : g.rules ≡ rules_of g.programs m.plan
+  pub limits : IsWithinLimits m.plan
+  pub course : course_of c ≡ m.course
+  pub within : IsWithin m.plan m.course
+  pub answers : c.answers ≡ answers_of m.execution
+  pub execution : execution.StandsFor (current g.programs m.plan m.course.begun) m.execution
+  pub phase : c.phase ≡ phase_of m.stage m.execution
+  pub holds : Holds m.plan m.stage m.execution
+
+-- a turn is taken: its state is kept, and its bodies are to be sent
+pub record Takes (g : Given) (t : Turn) (m : Memory) (bodies : List Body) : Type 0 where
+  pub state : StandsFor g t.state m
+  pub sent : bodies ≡ t.sent
+
+-- when a transaction starts
+abbrev pub start_in : Option Txn2 → ℕ
+start_in None = 0
+start_in (Some t) = t.at
+
+-- the version of a try, later than this time
+abbrev pub due_version : Plan → ℕ → ℕ → ℕ → Version
+due_version p begun attempt last = record {
+  ts = max (min (start_in (slice_get p.txns (begun - 1)) + min ((attempt - 1) * p.rules.gap) (2 ^ 64 - 1)) (2 ^ 64 - 1)) (min (last + 1) (2 ^ 64 - 1));
+  client = p.client;
+}
+
+-- an attempt begins
+abbrev pub begun_memory : Memory → ℕ → ℕ → Memory
+begun_memory m begun attempt = record m {
+  course = record {
+    begun = begun;
+    attempt = attempt;
+    exec = record { ver = due_version m.plan begun attempt m.course.exec.ver.ts; eid = 0 };
+    serial = bumped m.course.serial;
+    fate = Live;
+  };
+  execution = fresh_execution;
+  stage = stage.Running false;
+}

@@ -1,0 +1,16 @@
+//! A client of the store: it coordinates its own transactions. It executes them segment by segment, follows what it
+//! read, prepares, decides, and tries again.
+//!
+//! What a client does is `client_step` of `protocol`. Read `specs/Memory` first: when what is kept here stands for what
+//! the definitions remember, and that a step takes such a turn. The code goes by the rooms of the definitions:
+//! `attempts` (how an attempt begins, what a segment brings, when an execution is prepared), `following`, `deciding`,
+//! `counting` and `step`. The proofs follow it: `MemoryLemmas` shows what the current program does, and each file beside it the
+//! turns of one room.
+#![tactic(auto)]
+
+mod attempts;
+mod coordinator;
+mod memory;
+
+pub use coordinator::Coordinator;
+pub use memory::{Attempt, Rules, Txn2};
