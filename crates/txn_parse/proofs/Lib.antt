@@ -18,6 +18,7 @@ pub mod WideLimits
 pub mod FreeBlocks
 pub mod Laws
 pub mod FaultIsDecided
+pub mod MarkLemmas
 pub mod NamesLemmas
 pub mod RawTrees
 pub mod BodyLemmas

@@ -66,7 +66,7 @@ words =
     sign (codes "warden") symbol.Warden ∷
     []
 
--- the marks
+-- the marks, those of two bytes last
 unfoldable pub marks : List Sign
 marks =
     sign (codes ";") symbol.Semicolon ∷
@@ -82,13 +82,13 @@ marks =
     sign (codes "*") (symbol.Op op.Mul) ∷
     sign (codes "/") (symbol.Op op.Div) ∷
     sign (codes "%") (symbol.Op op.Rem) ∷
+    sign (codes "<") (symbol.Op op.Lt) ∷
+    sign (codes ">") (symbol.Op op.Gt) ∷
+    sign (codes ".") symbol.Dot ∷
     sign (codes "==") (symbol.Op op.Eq) ∷
     sign (codes "!=") (symbol.Op op.Ne) ∷
-    sign (codes "<") (symbol.Op op.Lt) ∷
     sign (codes "<=") (symbol.Op op.Le) ∷
-    sign (codes ">") (symbol.Op op.Gt) ∷
     sign (codes ">=") (symbol.Op op.Ge) ∷
-    sign (codes ".") symbol.Dot ∷
     []
 
 -- the symbol of the first that has these bytes

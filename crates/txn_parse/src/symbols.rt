@@ -1,5 +1,5 @@
-ghost use Rattle.std.specs.Prelude.{◌≡◌};
-ghost use Rattle.txn_parse.specs.Symbols.{symbol_of, symbol_in, entries_of, code, is};
+ghost use Rattle.std.specs.Prelude.{◌≡◌, [], ◌∷◌};
+ghost use Rattle.txn_parse.specs.Symbols.{symbol_of, symbol_in, marks, entries_of, code, is};
 
 use txn_lang::BinOp;
 use txn_text::{Token, TokenKind, token_text};
@@ -246,60 +246,8 @@ const WORDS: [Entry; 43] = [
     },
 ];
 
-// The marks.
-const MARKS: [Entry; 20] = [
-    Entry {
-        text: b";",
-        symbol: Symbol::Semicolon,
-    },
-    Entry {
-        text: b"[",
-        symbol: Symbol::OpenIndex,
-    },
-    Entry {
-        text: b"]",
-        symbol: Symbol::CloseIndex,
-    },
-    Entry {
-        text: b"{",
-        symbol: Symbol::OpenBlock,
-    },
-    Entry {
-        text: b"}",
-        symbol: Symbol::CloseBlock,
-    },
-    Entry {
-        text: b"=",
-        symbol: Symbol::Assign,
-    },
-    Entry {
-        text: b"(",
-        symbol: Symbol::OpenParen,
-    },
-    Entry {
-        text: b")",
-        symbol: Symbol::CloseParen,
-    },
-    Entry {
-        text: b"+",
-        symbol: Symbol::Op(BinOp::Add),
-    },
-    Entry {
-        text: b"-",
-        symbol: Symbol::Op(BinOp::Sub),
-    },
-    Entry {
-        text: b"*",
-        symbol: Symbol::Op(BinOp::Mul),
-    },
-    Entry {
-        text: b"/",
-        symbol: Symbol::Op(BinOp::Div),
-    },
-    Entry {
-        text: b"%",
-        symbol: Symbol::Op(BinOp::Rem),
-    },
+// The marks of two bytes.
+const PAIRS: [Entry; 4] = [
     Entry {
         text: b"==",
         symbol: Symbol::Op(BinOp::Eq),
@@ -309,24 +257,12 @@ const MARKS: [Entry; 20] = [
         symbol: Symbol::Op(BinOp::Ne),
     },
     Entry {
-        text: b"<",
-        symbol: Symbol::Op(BinOp::Lt),
-    },
-    Entry {
         text: b"<=",
         symbol: Symbol::Op(BinOp::Le),
     },
     Entry {
-        text: b">",
-        symbol: Symbol::Op(BinOp::Gt),
-    },
-    Entry {
         text: b">=",
         symbol: Symbol::Op(BinOp::Ge),
-    },
-    Entry {
-        text: b".",
-        symbol: Symbol::Dot,
     },
 ];
 
@@ -342,8 +278,44 @@ fn symbol_in(entries: &[Entry], text: &[u8]) -> Symbol
     Symbol::Other
 }
 
+// The symbol of a mark of one byte.
+#[tactic(auto, unfolding(crate::specs::Symbols::marks))]
+fn mark(byte: u8) -> Symbol
+    ensures { result ≡ symbol_in marks (byte ∷ []) }
+{
+    match byte {
+        b';' => Symbol::Semicolon,
+        b'[' => Symbol::OpenIndex,
+        b']' => Symbol::CloseIndex,
+        b'{' => Symbol::OpenBlock,
+        b'}' => Symbol::CloseBlock,
+        b'=' => Symbol::Assign,
+        b'(' => Symbol::OpenParen,
+        b')' => Symbol::CloseParen,
+        b'+' => Symbol::Op(BinOp::Add),
+        b'-' => Symbol::Op(BinOp::Sub),
+        b'*' => Symbol::Op(BinOp::Mul),
+        b'/' => Symbol::Op(BinOp::Div),
+        b'%' => Symbol::Op(BinOp::Rem),
+        b'<' => Symbol::Op(BinOp::Lt),
+        b'>' => Symbol::Op(BinOp::Gt),
+        b'.' => Symbol::Dot,
+        _ => Symbol::Other,
+    }
+}
+
+fn mark_in(text: &[u8]) -> Symbol
+    ensures { result ≡ symbol_in marks text.now }
+{
+    if text.len() == 1 {
+        mark(text[0])
+    } else {
+        symbol_in(&PAIRS, text)
+    }
+}
+
 /// The symbol of a token. A token that no grammar has is `Other`.
-#[tactic(auto, unfolding(crate::specs::Symbols::words, crate::specs::Symbols::marks))]
+#[tactic(auto, unfolding(crate::specs::Symbols::words))]
 pub fn symbol_of(text: &[u8], token: Token) -> Symbol
     ensures { result ≡ symbol_of text.now token }
 {
@@ -351,7 +323,7 @@ pub fn symbol_of(text: &[u8], token: Token) -> Symbol
         TokenKind::Name => Symbol::Name,
         TokenKind::Number => Symbol::Number,
         TokenKind::Word => symbol_in(&WORDS, token_text(text, token)),
-        TokenKind::Sym => symbol_in(&MARKS, token_text(text, token)),
+        TokenKind::Sym => mark_in(token_text(text, token)),
     }
 }
 
