@@ -32,7 +32,7 @@ start_within ts i h = go (slice_get ts i) refl
     go None e = omega arith
     go (Some t) e = h i t e
 
-least : (a b : ℕ) → a ≤ b → min a b ≡ a
+pub least : (a b : ℕ) → a ≤ b → min a b ≡ a
 least a b h = omega arith
 
 -- within the limits no time saturates

@@ -1,2 +1,4 @@
 pub mod MemoryLemmas
 pub mod AttemptLemmas
+pub mod SegmentLemmas
+pub mod StepLemmas

@@ -1,11 +1,12 @@
 -- When what a client keeps stands for what the definitions remember.
-use Rattle.std.specs.Prelude.{◌≡◌, ℕ, ◌+◌, ◌-◌, ◌*◌, ◌^◌, ◌≤◌, min, max, false, List, [], map, length, Option, Some, None, slice_get}
+use Rattle.std.specs.Prelude.{◌≡◌, ℕ, ◌+◌, ◌-◌, ◌*◌, ◌^◌, ◌≤◌, min, max, Bool, false, cond, ◌&&◌, ◌==◌, List, [], map, length, Option, Some, None, slice_get}
 use Rattle.protocol.specs.Words.{Version, Body}
 use Rattle.protocol.specs.declared.Fate.TheVariants.{Live}
 use Rattle.protocol.specs.Client.Attempts.{bumped}
 use Rattle.protocol.specs.Client.State as protocol
 use Rattle.protocol.specs.Client.State.{ClientState, Txn, Turn, Phase}
 use Rattle.protocol.specs.Client.State.Phase.{Between, Running, Prepared}
+use Rattle.continuation.specs.declared.segment.Job.{Job}
 use Rattle.execution.specs.Execution as execution
 use Rattle.execution.specs.Execution.{Loaded, walk_of, answers_of, is_pending, fresh_execution}
 use Rattle.execution.specs.declared.execution.Execution.{Execution}
@@ -117,3 +118,25 @@ begun_memory m begun attempt = record m {
   execution = fresh_execution;
   stage = stage.Running false;
 }
+
+-- the number of a transaction's program
+abbrev pub prog_of : Option Txn2 → ℕ
+prog_of None = 0
+prog_of (Some t) = t.prog
+
+abbrev pub awaits_at : Stage → Bool → Bool
+awaits_at (stage.Running given) pending = pending
+awaits_at _ pending = false
+
+-- a job is pending
+abbrev pub is_awaiting : Memory → Bool
+is_awaiting m = awaits_at m.stage (is_pending m.execution)
+
+-- the job of this serial is pending
+abbrev pub awaits : Memory → ℕ → Bool
+awaits m serial = is_awaiting m && serial == m.course.serial
+
+-- the pending job
+abbrev pub pending_job : Memory → Option Job
+pending_job m = cond (is_awaiting m)
+    (Some (record { client = m.plan.client; prog = prog_of (slice_get m.plan.txns (m.course.begun - 1)); serial = m.course.serial; at = m.execution.job })) None

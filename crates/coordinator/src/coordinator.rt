@@ -1,15 +1,26 @@
-ghost use Rattle.std.specs.Prelude.{◌≡◌, ◌++◌, Some, None, false, true, is_some, IsTrue, IsErr, IfOk, OnOk, OnErr};
+ghost use Rattle.std.specs.Prelude.{◌≡◌, ◌++◌, ◌↔◌, Some, None, false, true, is_some, IsTrue, IfSome, IsErr, IfOk, OnOk, OnErr};
 ghost use Rattle.protocol.specs.Client.State.{ClientState, Turn, fresh_client};
-ghost use Rattle.protocol.specs.Client.Attempts.{can_go};
+ghost use Rattle.protocol.specs.Client.Attempts.{can_go, has_pending};
+ghost use Rattle.continuation.specs.Job.{FitsCode};
+ghost use Rattle.execution.specs.Execution.{Loaded};
 ghost use Rattle.protocol.specs.Client.Step.{client_step, on_hurry};
-ghost use Rattle.protocol.specs.Client.Step.Input.{Goes};
-ghost use Rattle.coordinator.specs.Memory.{Given, IsWithinLimits, rules_of};
+ghost use Rattle.protocol.specs.Client.Step.Input.{Goes, Runs};
+ghost use Rattle.coordinator.specs.Memory.{Given, IsWithinLimits, awaits, current, pending_job, rules_of};
 
 use crate::memory::{Attempt, Course, Memory, Plan, Rules, Stage, Txn2};
+use continuation::{Done, Job};
 use execution::Execution;
 use morty_base::{Exec, List, NoMemory, Version};
+use msg::Envelope;
 use protocol::Fate;
 use std::alloc::Global;
+
+/// Whether a segment that was given back is that of the pending job.
+#[derive(Clone, Copy, Debug, PartialEq, Eq)]
+pub enum RanOut {
+    Used,
+    Stale,
+}
 
 /// A client. It is broken once a call that changes it was refused memory: it refuses each later call that it can, and
 /// what its other calls answer means nothing.
@@ -104,5 +115,57 @@ impl Coordinator {
         }
         self.memory.go(alloc);
         Ok(())
+    }
+
+    /// The pending job, if one is pending.
+    pub fn job(&self, alloc: Global) -> Result<Option<Job>, NoMemory>
+        ensures value { IfOk result (λ o. o ≡ pending_job self.now.memory) }
+        ensures some { IfOk result (λ o. (g : Given) (c : ClientState) → StandsFor g c self.now → is_some o ≡ has_pending c.phase) }
+        ensures fits { IfOk result (λ o. (g : Given) (c : ClientState) (l : Loaded) → StandsFor g c self.now → current g.programs self.now.memory.plan self.now.memory.course.begun ≡ Some l → IfSome o (λ j. FitsCode l.code j.at)) }
+        ensures broken { IsTrue (is_broken self.now) → IsErr result }
+    {
+        if self.broken {
+            return Err(NoMemory);
+        }
+        if !self.memory.is_awaiting() {
+            return Ok(None);
+        }
+        let at = self.memory.execution.job(alloc)?;
+        Ok(Some(Job {
+            client: self.memory.plan.client,
+            prog: self.memory.prog(),
+            serial: self.memory.course.serial,
+            at,
+        }))
+    }
+
+    /// Takes the run of the pending job: its writes go out, then its question; or the execution is prepared. A job with
+    /// another serial is stale.
+    pub fn ran(
+        &mut self,
+        alloc: Global,
+        done: &Done,
+        out: &mut List<Envelope>,
+    ) -> Result<RanOut, NoMemory>
+        requires { awaits self.old.memory done.now.job.serial ≡ true → pending_job self.old.memory ≡ Some done.now.job }
+        ensures stale { IfOk result (λ r. r ≡ RanOut.Stale ↔ awaits self.old.memory done.now.job.serial ≡ false) }
+        ensures still { awaits self.old.memory done.now.job.serial ≡ false → self.new ≡ self.old × out.new ≡ out.old }
+        ensures used { awaits self.old.memory done.now.job.serial ≡ true → OnOk result ((g : Given) (c : ClientState) (t : Turn) (l : Loaded) → StandsFor g c self.old → client_step g.rules c Runs ≡ Some t →
+            current g.programs self.old.memory.plan self.old.memory.course.begun ≡ Some l → done.now.code ≡ l.code → Does g t self.new out.old out.new) }
+        ensures kept { OnErr result (out.new ≡ out.old) }
+        ensures broken { IsTrue (is_broken self.old) → IsErr result }
+        ensures breaks { OnErr result (IsTrue (is_broken self.new)) }
+    {
+        if self.broken {
+            return Err(NoMemory);
+        }
+        if !self.memory.awaits(done.job().serial) {
+            return Ok(RanOut::Stale);
+        }
+        self.broken = true;
+        let sent = self.memory.ran(alloc, done.seg())?;
+        self.memory.plan.send(alloc, sent.as_slice(), out)?;
+        self.broken = false;
+        Ok(RanOut::Used)
     }
 }

@@ -11,6 +11,7 @@
 mod attempts;
 mod coordinator;
 mod memory;
+mod segments;
 
-pub use coordinator::Coordinator;
+pub use coordinator::{Coordinator, RanOut};
 pub use memory::{Attempt, Rules, Txn2};

@@ -1,7 +1,12 @@
+ghost use Rattle.std.specs.Prelude.{◌≡◌, ◌++◌, IfOk, OnOk, OnErr, flat_map};
+ghost use Rattle.protocol.specs.Words.{Client};
+ghost use Rattle.protocol.specs.World.Events.{to_all};
+
 use execution::Execution;
-use morty_base::{Exec, List};
-use msg::{Choice, Content};
-use protocol::Fate;
+use morty_base::{Exec, List, NoMemory, NodeId};
+use msg::{Body, Choice, Content, Envelope};
+use protocol::{Fate, send_to_all};
+use std::alloc::Global;
 use vote_tally::Tally;
 
 /// What a script says to each client: how many replicas there are, how often a transaction is tried and a version
@@ -35,6 +40,35 @@ pub(crate) struct Plan {
     pub(crate) client: u32,
     pub(crate) rules: Rules,
     pub(crate) txns: List<Txn2>,
+}
+
+impl Plan {
+    // Each body goes to all replicas.
+    fn parcels(&self, alloc: Global, bodies: &[Body]) -> Result<List<Envelope>, NoMemory>
+        ensures { IfOk result (λ l. l ≡ flat_map (to_all self.now.rules.replicas (Client self.now.client)) bodies.now) }
+    {
+        let mut sent = List::new(alloc);
+        let from = NodeId::Client(self.client);
+        for body in bodies {
+            send_to_all(alloc, self.rules.replicas, from, body, &mut sent)?;
+        }
+        Ok(sent)
+    }
+
+    /// Sends the bodies, each to all replicas, behind what is there.
+    pub(crate) fn send(
+        &self,
+        alloc: Global,
+        bodies: &[Body],
+        out: &mut List<Envelope>,
+    ) -> Result<(), NoMemory>
+        ensures ok { OnOk result (out.new ≡ out.old ++ flat_map (to_all self.now.rules.replicas (Client self.now.client)) bodies.now) }
+        ensures err { OnErr result (out.new ≡ out.old) }
+    {
+        let sent = self.parcels(alloc, bodies)?;
+        out.append(sent)?;
+        Ok(())
+    }
 }
 
 // How far a client has come: how many transactions it began, the try and execution of the last one, the serial of the

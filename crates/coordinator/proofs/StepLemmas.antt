@@ -1,0 +1,53 @@
+-- The steps of a client, and what a coordinator that took one is.
+use Rattle.std.proofs.Common.{◌≡◌, ℕ, Bool, true, false, cond, List, [], ◌∷◌, ◌++◌, Option, Some, None, refl, ap, sym, subst, ◌∙◌}
+use Rattle.std.specs.Prelude.{◌&&◌, ◌==◌, ◌-◌, flat_map, slice_get}
+use Rattle.continuation.specs.declared.segment.Job.{Job}
+use Rattle.continuation.specs.declared.segment.Seg.{Seg}
+use Rattle.continuation.specs.declared.segment.JobAt.{JobAt}
+use Rattle.continuation.specs.Job.{IsJobRun}
+use Rattle.flat_code.specs.Operation.{Flat}
+use Rattle.protocol.specs.Words.{Body, Client, Envelope}
+use Rattle.protocol.specs.Client.State as protocol
+use Rattle.protocol.specs.Client.State.{ClientState, Phase, Turn}
+use Rattle.protocol.specs.Client.State.Phase.{Between, Running, Prepared}
+use Rattle.protocol.specs.Client.Attempts.{ran}
+use Rattle.protocol.specs.Client.Step.{client_step, on_ran}
+use Rattle.protocol.specs.Client.Step.Input.{Runs}
+use Rattle.protocol.specs.World.Events.{to_all}
+use Rattle.coordinator.specs.Memory.{Given, Takes, awaits, is_awaiting, pending_job, prog_of}
+use Rattle.coordinator.specs.Coordinator.{Does}
+use Rattle.coordinator.specs.declared.memory.Memory.{Memory}
+
+-- a segment can be given back while a job is pending
+pub runs_step : (r : protocol.Rules) (c : ClientState) (t : Turn) → client_step r c Runs ≡ Some t →
+    (given : Bool) × (c.phase ≡ Running true given) × (t ≡ ran r c given)
+unfolding client_step on_ran
+runs_step r c t e = case c.phase refl e
+  where
+    case : (p : Phase) → c.phase ≡ p → on_ran r c p ≡ Some t → (given : Bool) × (c.phase ≡ Running true given) × (t ≡ ran r c given)
+    case Between is e = absurd (cc)
+    case (Running true given) is e = (given, is, let same : ran r c given ≡ t = cc in sym same)
+    case (Running false given) is e = absurd (cc)
+    case (Prepared content votes proposal accepts) is e = absurd (cc)
+
+first_true : (a b : Bool) → (a && b) ≡ true → a ≡ true
+first_true true b e = refl
+first_true false b e = cc
+
+-- the pending job begins where the execution's last one does
+pub job_begins : (m : Memory) (j : Job) → awaits m j.serial ≡ true → pending_job m ≡ Some j → j.at ≡ m.execution.job
+job_begins m j waits is = go (is_awaiting m) (first_true (is_awaiting m) (j.serial == m.course.serial) waits) is
+  where
+    go : (b : Bool) → b ≡ true → cond b (Some (record { client = m.plan.client; prog = prog_of (slice_get m.plan.txns (m.course.begun - 1)); serial = m.course.serial; at = m.execution.job })) None ≡ Some j → j.at ≡ m.execution.job
+    go true h e = cc
+    go false h e = absurd (cc)
+
+-- a turn that is taken, and sent
+pub does : (g : Given) (t : Turn) (m : Memory) (bodies sent : List Body) (before after : List Envelope) → Takes g t m bodies → sent ≡ bodies →
+    after ≡ before ++ flat_map (to_all m.plan.rules.replicas (Client m.plan.client)) sent → Does g t (record { memory = m; broken = false }) before after
+does g t m bodies sent before after takes same is = record {
+  state = record { memory = takes.state; whole = refl };
+  sent =
+      is ∙ ap (λ bs. before ++ flat_map (to_all m.plan.rules.replicas (Client m.plan.client)) bs) (same ∙ takes.sent)
+      ∙ ap (λ (r : protocol.Rules). before ++ flat_map (to_all r.replicas (Client r.client)) t.sent) (sym takes.state.rules);
+}
