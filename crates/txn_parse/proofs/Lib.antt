@@ -1,5 +1,6 @@
 pub mod PendingLemmas
 pub mod ReadingLemmas
+pub mod ExprLemmas
 pub mod LimitsLemmas
 pub mod Sound
 pub mod SoundExpr

@@ -1,5 +1,5 @@
 -- Reading a block from left to right: the tree and what follows it, or the first fault.
-use Rattle.std.specs.Prelude.{ℕ, zero, suc, ◌+◌, Bool, true, false, List, [], ◌∷◌, length, Option, Some, None, Result, Ok, Err, if◌then◌else◌}
+use Rattle.std.specs.Prelude.{◌≡◌, ℕ, zero, suc, ◌+◌, Bool, true, false, List, [], ◌∷◌, length, Option, Some, None, Result, Ok, Err, if◌then◌else◌}
 use Rattle.txn_text.specs.declared.kinds.Token.{Token}
 use Rattle.txn_text.specs.declared.faults.FaultKind.TheVariants as fault
 use Rattle.txn_text.specs.declared.faults.TextFault.{TextFault}
@@ -47,6 +47,16 @@ expr_from last (l ∷ ls) (suc room) s =
 
 abbrev pub expr_at : ℕ → ℕ → Reader Term
 expr_at last room ls = expr_from last ls room (Awaits Nothing)
+
+-- no token goes on with an expression that was read to this state
+abbrev pub EndsAt : State → List Lexeme → Type 0
+EndsAt s [] = Unit {0}
+EndsAt s (l ∷ ls) = goes_on s l.symbol ≡ false
+
+-- the first token does, and these stand behind it
+pub record GoesOnWith (s : State) (ls : List Lexeme) (l : Lexeme) (rest : List Lexeme) : Type 0 where
+  pub split : ls ≡ l ∷ rest
+  pub goes : goes_on s l.symbol ≡ true
 
 -- the statements behind their first word
 unfoldable pub let_at : ℕ → ℕ → Reader Command
