@@ -101,9 +101,9 @@ stops x (y ∷ ys) rest is =
 abbrev value : ℕ → ℕ → ℕ
 value n b = n * 10 + (b - 48)
 
-record IsDecimal (n : ℕ) (digits : List ℕ) : Type 0 where
-  all : list_all is_digit digits ≡ true
-  same : number_of digits ≡ n
+pub record IsDecimal (n : ℕ) (digits : List ℕ) : Type 0 where
+  pub all : list_all is_digit digits ≡ true
+  pub same : number_of digits ≡ n
 
 a_digit : (d : ℕ) → d < 10 → is_digit (48 + d) ≡ true
 a_digit d low = grind (arith, nat_tests)
@@ -117,7 +117,7 @@ more_digits n ds most is = record {
   same = fold-append value 0 ds ((48 + n % 10) ∷ []) ∙ (let e = is.same in let f : number_of ds * 10 + (48 + n % 10 - 48) ≡ n = omega (arith, e) in f);
 }
 
-decimal_is : (n : ℕ) → n ≤ GREATEST_NUMBER → IsDecimal n (decimal n)
+pub decimal_is : (n : ℕ) → n ≤ GREATEST_NUMBER → IsDecimal n (decimal n)
 decimal_is n small = decimal_by_steps IsDecimal one_digit more_digits n (omega (arith, small))
 
 pub number-decimal : (n : ℕ) → n ≤ GREATEST_NUMBER → number_of (decimal n) ≡ n
