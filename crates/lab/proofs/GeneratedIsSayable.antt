@@ -148,9 +148,9 @@ other_name : (a b : ℕ) → a < b → b < 2 ^ 32 → bytes_eq (codes "p" ++ dec
 other_name a b less small =
     ⊎_elim
     (λ yes. let same : codes "p" ++ decimal a ≡ codes "p" ++ decimal b = (bytes_eq-Decides (codes "p" ++ decimal a) (codes "p" ++ decimal b)).0 yes in
-      let digits : decimal a ≡ decimal b = ap (λ (w : List ℕ). drop 1 w) same in
-      let number = decimal_injective a b (omega (arith, less, small)) (omega (arith, small)) digits in
-      absurd (let e : ⊥ = omega (arith, number, less) in e))
+    let digits : decimal a ≡ decimal b = ap (λ (w : List ℕ). drop 1 w) same in
+    let number = decimal_injective a b (omega (arith, less, small)) (omega (arith, small)) digits in
+    absurd (let e : ⊥ = omega (arith, number, less) in e))
     (λ no. no) (cases_Bool (bytes_eq (codes "p" ++ decimal a) (codes "p" ++ decimal b)))
 
 names_apart : (a i n : ℕ) (g : Lcg) → a < i → i + n < 2 ^ 32 → AllByRecursion (λ w. bytes_eq (codes "p" ++ decimal a) w ≡ false) (map (λ (p : Named). p.name) (transfer_progs i (transfers n g)))

@@ -52,9 +52,19 @@ policy_is policy.Abort = (refl, (refl, tt))
 settings_are : (s : Script) → IsSayable s → AreLines (setting_lines s)
 unfolding is_reserved is_setting_word is_item_word is_net_word is_plan_word is_statement_word
 settings_are s is =
-    let limits = is.settings in
-    ((refl, (omega arith, tt)), ((refl, (may_small named.Replicas s.replicas limits.replicas, tt)), ((refl, (may_small named.Wardens s.wardens limits.wardens, tt)), ((refl, (may_small named.Tries s.tries limits.tries, tt)),
-    ((refl, (may_small named.Execs s.execs limits.execs, tt)), ((refl, (may_small named.Gap s.gap limits.gap, tt)), ((refl, (may_small named.Turns s.turns limits.turns, tt)), (policy_is s.policy, tt))))))))
+    let limits = is.settings in (
+      (refl, (omega arith, tt)),
+      (
+        (refl, (may_small named.Replicas s.replicas limits.replicas, tt)),
+        (
+          (refl, (may_small named.Wardens s.wardens limits.wardens, tt)),
+          (
+            (refl, (may_small named.Tries s.tries limits.tries, tt)),
+            ((refl, (may_small named.Execs s.execs limits.execs, tt)), ((refl, (may_small named.Gap s.gap limits.gap, tt)), ((refl, (may_small named.Turns s.turns limits.turns, tt)), (policy_is s.policy, tt)))),
+          ),
+        ),
+      ),
+    )
 
 tables_are : (names : Names) → list_all is_name names ≡ true → AreLines (map table_line names)
 unfolding is_reserved is_setting_word is_item_word is_net_word is_plan_word is_statement_word
@@ -156,5 +166,5 @@ lines_are s is =
     let a5 = lines_append (L1 ++ L2 ++ L3 ++ L4) L5 a4 (clients_are (prog_names s) is.named.named s.clients 1 (omega (arith, few)) clients) in
     let a6 = lines_append (L1 ++ L2 ++ L3 ++ L4 ++ L5) L6 a5 (net_is s.net is.net, tt) in
     let a7 = lines_append (L1 ++ L2 ++ L3 ++ L4 ++ L5 ++ L6) L7 a6
-      (plan_is s (may_small named.Replicas s.replicas is.settings.replicas) (may_small named.Wardens s.wardens is.settings.wardens) few s.plan is.plan) in
+    (plan_is s (may_small named.Replicas s.replicas is.settings.replicas) (may_small named.Wardens s.wardens is.settings.wardens) few s.plan is.plan) in
     lines_append (L1 ++ L2 ++ L3 ++ L4 ++ L5 ++ L6 ++ L7) L8 a7 ((refl, tt), tt)

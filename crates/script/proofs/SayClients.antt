@@ -57,8 +57,8 @@ module _ (text : List ℕ) (programs : Names) (distinct : IsDistinct bytes_eq pr
       record {
         raw = raw;
         derived = into_derived (λ x. record { name = x.0; at = x.1 }) (Both name (optional (behind symbol.At number))) (lexeme symbol.Name n ∷ lexeme symbol.At w ∷ lexeme symbol.Number a ∷ []) (n, Some a)
-          (both_derived name (optional (behind symbol.At number)) (lexeme symbol.Name n ∷ []) (lexeme symbol.At w ∷ lexeme symbol.Number a ∷ []) n (Some a) (token_derived symbol.Name n refl)
-          (inl (into_derived Some (behind symbol.At number) (lexeme symbol.At w ∷ lexeme symbol.Number a ∷ []) a (behind_derived symbol.At number w (lexeme symbol.Number a ∷ []) a refl (token_derived symbol.Number a refl)))));
+            (both_derived name (optional (behind symbol.At number)) (lexeme symbol.Name n ∷ []) (lexeme symbol.At w ∷ lexeme symbol.Number a ∷ []) n (Some a) (token_derived symbol.Name n refl)
+            (inl (into_derived Some (behind symbol.At number) (lexeme symbol.At w ∷ lexeme symbol.Number a ∷ []) a (behind_derived symbol.At number w (lexeme symbol.Number a ∷ []) a refl (token_derived symbol.Number a refl)))));
         same = ap (λ (m : ℕ). let x : Txn = record { prog = m; at = number_of text a } in x) here ∙ ap (λ (m : ℕ). let x : Txn = record { prog = t.prog; at = m } in x) late;
         known = pass (not (is_known programs (token_bytes text n))) n fault.UnknownProgram [] (none_of (is_known programs (token_bytes text n)) (ap (is_known programs) spelled ∙ known_here programs distinct t.prog is.known)) refl;
         starts = pass (not (nat_le (number_of text a) LATEST_START)) a fault.AtRange [] (none_of (nat_le (number_of text a) LATEST_START) (ap (λ (m : ℕ). nat_le m LATEST_START) late ∙ within t.at start)) refl;
@@ -103,13 +103,13 @@ module _ (text : List ℕ) (programs : Names) (distinct : IsDistinct bytes_eq pr
       let x = parts text (txn_pieces programs t) (more_txns programs ts) l in
       let r = txn_read t x.front each.0 x.first in
       let o = more_read ts x.back each.1 x.second in
-            record {
+      record {
         told = told_then t ts x.front r o.told;
         derive = λ y ms raw d. subst (λ (ns : List Lexeme). IsListed (Derives txn) (ms ++ lexeme symbol.Semicolon s ∷ ns) (raw ∷ r.raw ∷ o.told.raws))
-          (sym (ap (λ (ns : List Lexeme). ns ++ lexeme symbol.CloseBlock y ∷ []) x.split ∙ append_assoc x.front x.back (lexeme symbol.CloseBlock y ∷ [])))
-          (listed_more s ms (x.front ++ (x.back ++ lexeme symbol.CloseBlock y ∷ [])) raw (r.raw ∷ o.told.raws) d (o.derive y x.front r.raw r.derived));
+            (sym (ap (λ (ns : List Lexeme). ns ++ lexeme symbol.CloseBlock y ∷ []) x.split ∙ append_assoc x.front x.back (lexeme symbol.CloseBlock y ∷ [])))
+            (listed_more s ms (x.front ++ (x.back ++ lexeme symbol.CloseBlock y ∷ [])) raw (r.raw ∷ o.told.raws) d (o.derive y x.front r.raw r.derived));
         calm = λ n. let c = o.calm 1 in
-          (c.0, ap (counted 1 0) x.split ∙ counted-append x.front x.back 1 0 ∙ ap (λ k. and_then k (λ c. counted c.0 c.1 x.back)) r.counts ∙ c.1);
+            (c.0, ap (counted 1 0) x.split ∙ counted-append x.front x.back 1 0 ∙ ap (λ k. and_then k (λ c. counted c.0 c.1 x.back)) r.counts ∙ c.1);
       }
 
   -- the transactions of a client, behind the opening brace
@@ -133,14 +133,17 @@ module _ (text : List ℕ) (programs : Names) (distinct : IsDistinct bytes_eq pr
           let r = txn_read t x.front each.0 x.first in
           let o = more_read ts x.back each.1 x.second in
           let whole : zs ≡ x.front ++ (x.back ++ lexeme symbol.CloseBlock y ∷ []) =
-            split ∙ ap (λ (ns : List Lexeme). ns ++ lexeme symbol.CloseBlock y ∷ []) x.split ∙ append_assoc x.front x.back (lexeme symbol.CloseBlock y ∷ []) in
+          split ∙ ap (λ (ns : List Lexeme). ns ++ lexeme symbol.CloseBlock y ∷ []) x.split ∙ append_assoc x.front x.back (lexeme symbol.CloseBlock y ∷ []) in
           let c = o.calm 1 in
           record {
             told = told_then t ts x.front r o.told;
             derived = inr (subst (λ (ns : List Lexeme). IsListed (Derives txn) ns (r.raw ∷ o.told.raws)) (sym whole) (o.derive y x.front r.raw r.derived));
-            calm = (0, ap (counted 1 0) whole ∙ counted-append x.front (x.back ++ lexeme symbol.CloseBlock y ∷ []) 1 0
-              ∙ ap (λ k. and_then k (λ c. counted c.0 c.1 (x.back ++ lexeme symbol.CloseBlock y ∷ []))) r.counts
-              ∙ counted-append x.back (lexeme symbol.CloseBlock y ∷ []) 1 1 ∙ ap (λ k. and_then k (λ c. counted c.0 c.1 (lexeme symbol.CloseBlock y ∷ []))) c.1);
+            calm = (
+              0,
+              ap (counted 1 0) whole ∙ counted-append x.front (x.back ++ lexeme symbol.CloseBlock y ∷ []) 1 0
+                  ∙ ap (λ k. and_then k (λ c. counted c.0 c.1 (x.back ++ lexeme symbol.CloseBlock y ∷ []))) r.counts
+                  ∙ counted-append x.back (lexeme symbol.CloseBlock y ∷ []) 1 1 ∙ ap (λ k. and_then k (λ c. counted c.0 c.1 (lexeme symbol.CloseBlock y ∷ []))) c.1,
+            );
           }
 
       by_parts : Parts text (txn_pieces programs t ++ more_txns programs ts) (Mark (codes "}") ∷ []) zs → ListRead zs (t ∷ ts)

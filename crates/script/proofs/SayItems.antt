@@ -57,7 +57,7 @@ module _ (text : List ℕ) where
       record {
         items = Net raw ∷ [];
         derived = into_derived grammar.as_list (grammar.optional grammar.net) (lexeme symbol.Net w ∷ ls) (Some (Net raw))
-          (inl (into_derived Some grammar.net (lexeme symbol.Net w ∷ ls) (Net raw) (into_derived Net (grammar.behind symbol.Net choice) (lexeme symbol.Net w ∷ ls) raw (behind_derived symbol.Net choice w ls raw refl d))));
+            (inl (into_derived Some grammar.net (lexeme symbol.Net w ∷ ls) (Net raw) (into_derived Net (grammar.behind symbol.Net choice) (lexeme symbol.Net w ∷ ls) raw (behind_derived symbol.Net choice w ls raw refl d))));
         passes = none_first (net_checks text raw) [] passes;
         says = ap (λ (m : NetValue). let x : Said = record s { script = record s.script { net = m } } in x) same;
         calm = calm;
@@ -121,8 +121,8 @@ module _ (text : List ℕ) where
       record {
         raw = entries.Calls c (Some t);
         derived = inl (into_derived (λ x. entries.Calls x.0.0 x.1) (Both (One grammar.calls_of symbol.Wait) (grammar.optional grammar.number)) (lexeme y w ∷ lexeme symbol.Number t ∷ []) ((c, w), Some t)
-          (both_derived (One grammar.calls_of symbol.Wait) (grammar.optional grammar.number) (lexeme y w ∷ []) (lexeme symbol.Number t ∷ []) (c, w) (Some t) (one_derived grammar.calls_of symbol.Wait y w c chosen)
-          (inl (into_derived Some grammar.number (lexeme symbol.Number t ∷ []) t (token_derived symbol.Number t refl)))));
+            (both_derived (One grammar.calls_of symbol.Wait) (grammar.optional grammar.number) (lexeme y w ∷ []) (lexeme symbol.Number t ∷ []) (c, w) (Some t) (one_derived grammar.calls_of symbol.Wait y w c chosen)
+            (inl (into_derived Some grammar.number (lexeme symbol.Number t ∷ []) t (token_derived symbol.Number t refl)))));
         same = ap (calls_by c) same ∙ is;
         passes = pass (not (between 1 MOST_CALLS (number_of text t))) t fault.PlanRange [] (ap (λ (i : ℕ). not (between 1 MOST_CALLS i)) same ∙ within n MOST_CALLS few.0 few.1) refl;
         counts = counts;
@@ -155,9 +155,9 @@ module _ (text : List ℕ) where
         let item : PlanItem = record { node = n; what = what.At now p } in
         let k' = k.counts 0 1 in
         let whole = inl (into_derived (λ x. At x.0 x.1.0 x.1.1.0 x.1.1.1) (Both (grammar.token symbol.At) (Both grammar.number (Both grammar.node grammar.pick))) (lexeme symbol.At w ∷ lexeme symbol.Number t ∷ (front ++ back)) (w, (t, (m.raw, k.raw)))
-          (both_derived (grammar.token symbol.At) (Both grammar.number (Both grammar.node grammar.pick)) (lexeme symbol.At w ∷ []) (lexeme symbol.Number t ∷ (front ++ back)) w (t, (m.raw, k.raw)) (token_derived symbol.At w refl)
-          (both_derived grammar.number (Both grammar.node grammar.pick) (lexeme symbol.Number t ∷ []) (front ++ back) t (m.raw, k.raw) (token_derived symbol.Number t refl)
-          (both_derived grammar.node grammar.pick front back m.raw k.raw m.derived k.derived)))) in
+        (both_derived (grammar.token symbol.At) (Both grammar.number (Both grammar.node grammar.pick)) (lexeme symbol.At w ∷ []) (lexeme symbol.Number t ∷ (front ++ back)) w (t, (m.raw, k.raw)) (token_derived symbol.At w refl)
+        (both_derived grammar.number (Both grammar.node grammar.pick) (lexeme symbol.Number t ∷ []) (front ++ back) t (m.raw, k.raw) (token_derived symbol.Number t refl)
+        (both_derived grammar.node grammar.pick front back m.raw k.raw m.derived k.derived)))) in
         says_one text grammar.plan (lexeme symbol.At w ∷ lexeme symbol.Number t ∷ ls) (with_plan before) (with_plan (before ++ item ∷ [])) (At w t m.raw k.raw)
         (subst (λ (ms : List Lexeme). Derives grammar.plan (lexeme symbol.At w ∷ lexeme symbol.Number t ∷ ms) (At w t m.raw k.raw)) (sym split) whole)
         (none_first (node_check text (record base { plan = before }) m.raw ∷ []) (check (is_listed base.net) w fault.WrongNet ∷ pick_checks text k.raw) (m.exists before) ∙ pass (is_listed base.net) w fault.WrongNet (pick_checks text k.raw) fair k.passes)
@@ -174,16 +174,19 @@ module _ (text : List ℕ) where
         let tail = lexeme symbol.OpenBlock x ∷ (back ++ lexeme symbol.CloseBlock y ∷ []) in
         let inside = behind_derived symbol.OpenBlock (Listed grammar.entry) x (back ++ lexeme symbol.CloseBlock y ∷ []) (k.raw ∷ []) refl (last_one y back k.raw k.derived) in
         let whole = inr (into_derived (λ x. Entries x.0 x.1.0 x.1.1) (Both (grammar.token symbol.List) (Both grammar.node (grammar.behind symbol.OpenBlock (Listed grammar.entry)))) (lexeme symbol.List w ∷ (front ++ tail)) (w, (m.raw, k.raw ∷ []))
-          (both_derived (grammar.token symbol.List) (Both grammar.node (grammar.behind symbol.OpenBlock (Listed grammar.entry))) (lexeme symbol.List w ∷ []) (front ++ tail) w (m.raw, k.raw ∷ []) (token_derived symbol.List w refl)
-          (both_derived grammar.node (grammar.behind symbol.OpenBlock (Listed grammar.entry)) front tail m.raw (k.raw ∷ []) m.derived inside))) in
+        (both_derived (grammar.token symbol.List) (Both grammar.node (grammar.behind symbol.OpenBlock (Listed grammar.entry))) (lexeme symbol.List w ∷ []) (front ++ tail) w (m.raw, k.raw ∷ []) (token_derived symbol.List w refl)
+        (both_derived grammar.node (grammar.behind symbol.OpenBlock (Listed grammar.entry)) front tail m.raw (k.raw ∷ []) m.derived inside))) in
         let entry_passes = none_first (entry_checks text k.raw) [] k.passes in
         says_one text grammar.plan (lexeme symbol.List w ∷ ls) (with_plan before) (with_plan (before ++ item ∷ [])) (Entries w m.raw (k.raw ∷ []))
         (subst (λ (ms : List Lexeme). Derives grammar.plan (lexeme symbol.List w ∷ ms) (Entries w m.raw (k.raw ∷ []))) (sym split) whole)
         (none_first (node_check text (record base { plan = before }) m.raw ∷ []) (check (not (is_listed base.net)) w fault.WrongNet ∷ (entry_checks text k.raw ++ [])) (m.exists before)
         ∙ pass (not (is_listed base.net)) w fault.WrongNet (entry_checks text k.raw ++ []) (ap not listed) entry_passes)
         (ap (λ (z : NodeId). with_plan (before ++ record { node = z; what = entry_of text k.raw } ∷ [])) m.same ∙ ap (λ (z : PlanWhat). with_plan (before ++ record { node = n; what = z } ∷ [])) k.same)
-        (λ r. (0, ap (counted 0 0) split ∙ counted-append front tail 0 0 ∙ ap (λ z. and_then z (λ c. counted c.0 c.1 tail)) (m.counts 0 0)
-        ∙ counted-append back (lexeme symbol.CloseBlock y ∷ []) 1 0 ∙ ap (λ z. and_then z (λ c. counted c.0 c.1 (lexeme symbol.CloseBlock y ∷ []))) k'.1))
+        (λ r. (
+          0,
+          ap (counted 0 0) split ∙ counted-append front tail 0 0 ∙ ap (λ z. and_then z (λ c. counted c.0 c.1 tail)) (m.counts 0 0)
+              ∙ counted-append back (lexeme symbol.CloseBlock y ∷ []) 1 0 ∙ ap (λ z. and_then z (λ c. counted c.0 c.1 (lexeme symbol.CloseBlock y ∷ []))) k'.1,
+        ))
 
     entry_says : (before : List PlanItem) (n : NodeId) (e : PlanWhat) (ls : List Lexeme) → IsEntry e → is_listed base.net ≡ true → ((ms : List Lexeme) → Lexed text (node_pieces n) ms → NodeRead text base ms n) → Lexed text (entry_line n e) ls →
         Says text (Many grammar.plan) ls (with_plan before) (with_plan (before ++ record { node = n; what = e } ∷ []))

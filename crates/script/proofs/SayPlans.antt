@@ -81,10 +81,10 @@ module _ (text : List ℕ) where
       record {
         raw = record { kind = k; number = t };
         derived = into_derived (λ x. record { kind = x.0.0; number = x.1 }) (Both (One grammar.node_of symbol.Client) grammar.number) (lexeme y w ∷ lexeme symbol.Number t ∷ []) ((k, w), t)
-          (both_derived (One grammar.node_of symbol.Client) grammar.number (lexeme y w ∷ []) (lexeme symbol.Number t ∷ []) (k, w) t (one_derived grammar.node_of symbol.Client y w k chosen) (token_derived symbol.Number t refl));
+            (both_derived (One grammar.node_of symbol.Client) grammar.number (lexeme y w ∷ []) (lexeme symbol.Number t ∷ []) (k, w) t (one_derived grammar.node_of symbol.Client y w k chosen) (token_derived symbol.Number t refl));
         same = ap (node_by k) same ∙ is;
         exists = λ plan. let many = nodes_in k (record s { plan = plan }) in
-          pass (not (between 1 many (number_of text t))) t fault.NoSuchNode [] (ap (λ (i : ℕ). not (between 1 many i)) same ∙ within m many some (few plan)) refl;
+            pass (not (between 1 many (number_of text t))) t fault.NoSuchNode [] (ap (λ (i : ℕ). not (between 1 many i)) same ∙ within m many some (few plan)) refl;
         counts = counts;
       }
 
@@ -119,8 +119,8 @@ module _ (text : List ℕ) where
       record {
         raw = record { ts = t; client = c };
         derived = into_derived (λ x. record { ts = x.0; client = x.1 }) (Both grammar.number (grammar.behind symbol.Dot grammar.number)) (lexeme symbol.Number t ∷ lexeme symbol.Dot x ∷ lexeme symbol.Number c ∷ []) (t, c)
-          (both_derived grammar.number (grammar.behind symbol.Dot grammar.number) (lexeme symbol.Number t ∷ []) (lexeme symbol.Dot x ∷ lexeme symbol.Number c ∷ []) t c (token_derived symbol.Number t refl)
-          (behind_derived symbol.Dot grammar.number x (lexeme symbol.Number c ∷ []) c refl (token_derived symbol.Number c refl)));
+            (both_derived grammar.number (grammar.behind symbol.Dot grammar.number) (lexeme symbol.Number t ∷ []) (lexeme symbol.Dot x ∷ lexeme symbol.Number c ∷ []) t c (token_derived symbol.Number t refl)
+            (behind_derived symbol.Dot grammar.number x (lexeme symbol.Number c ∷ []) c refl (token_derived symbol.Number c refl)));
         same = ap (λ (n : ℕ). let w : Version = record { ts = n; client = number_of text c } in w) ts ∙ ap (λ (n : ℕ). let w : Version = record { ts = v.ts; client = n } in w) client;
         small = ap (λ (n : ℕ). not (nat_le n GREATEST_PLANNED)) client ∙ under v.client GREATEST_PLANNED is.1;
       }
@@ -153,7 +153,7 @@ module _ (text : List ℕ) where
   pick_read (pick.Deliver n) zs is (one p w ps ps' b (one q t qs qs' b' none)) = record {
     raw = picks.Deliver t;
     derived = inr (inl (into_derived picks.Deliver (grammar.behind symbol.Deliver grammar.number) (lexeme symbol.Deliver w ∷ lexeme symbol.Number t ∷ []) t
-      (behind_derived symbol.Deliver grammar.number w (lexeme symbol.Number t ∷ []) t refl (token_derived symbol.Number t refl))));
+        (behind_derived symbol.Deliver grammar.number w (lexeme symbol.Number t ∷ []) t refl (token_derived symbol.Number t refl))));
     same = ap pick.Deliver (read_as t n b' is);
     passes = refl;
     counts = λ d r. (1, refl);
@@ -165,12 +165,12 @@ module _ (text : List ℕ) where
       record {
         raw = picks.Recover v.raw i;
         derived = inr (inr (inl (into_derived (λ x. picks.Recover x.0 x.1) (Both (grammar.behind symbol.Recover grammar.version_name) grammar.number)
-          (lexeme symbol.Recover w ∷ lexeme symbol.Number t ∷ lexeme symbol.Dot y ∷ lexeme symbol.Number c ∷ lexeme symbol.Number i ∷ []) (v.raw, i)
-          (both_derived (grammar.behind symbol.Recover grammar.version_name) grammar.number (lexeme symbol.Recover w ∷ lexeme symbol.Number t ∷ lexeme symbol.Dot y ∷ lexeme symbol.Number c ∷ []) (lexeme symbol.Number i ∷ []) v.raw i
-          (behind_derived symbol.Recover grammar.version_name w (lexeme symbol.Number t ∷ lexeme symbol.Dot y ∷ lexeme symbol.Number c ∷ []) v.raw refl v.derived) (token_derived symbol.Number i refl)))));
+            (lexeme symbol.Recover w ∷ lexeme symbol.Number t ∷ lexeme symbol.Dot y ∷ lexeme symbol.Number c ∷ lexeme symbol.Number i ∷ []) (v.raw, i)
+            (both_derived (grammar.behind symbol.Recover grammar.version_name) grammar.number (lexeme symbol.Recover w ∷ lexeme symbol.Number t ∷ lexeme symbol.Dot y ∷ lexeme symbol.Number c ∷ []) (lexeme symbol.Number i ∷ []) v.raw i
+            (behind_derived symbol.Recover grammar.version_name w (lexeme symbol.Number t ∷ lexeme symbol.Dot y ∷ lexeme symbol.Number c ∷ []) v.raw refl v.derived) (token_derived symbol.Number i refl)))));
         same = ap (λ (z : Version). pick.Recover (record { ver = z; eid = number_of text i })) v.same ∙ ap (λ (n : ℕ). pick.Recover (record { ver = x.ver; eid = n })) eid;
         passes = pass (not (nat_le (number_of text v.raw.client) GREATEST_PLANNED)) v.raw.client fault.PlanRange (planned_check text i ∷ []) v.small
-          (pass (not (nat_le (number_of text i) GREATEST_PLANNED)) i fault.PlanRange [] (ap (λ (n : ℕ). not (nat_le n GREATEST_PLANNED)) eid ∙ under x.eid GREATEST_PLANNED is.1) refl);
+            (pass (not (nat_le (number_of text i) GREATEST_PLANNED)) i fault.PlanRange [] (ap (λ (n : ℕ). not (nat_le n GREATEST_PLANNED)) eid ∙ under x.eid GREATEST_PLANNED is.1) refl);
         counts = λ d r. (2, refl);
       }
   pick_read (pick.Truncate x) zs is (one p w ps ps' b (one q t qs qs' b' (one o y os os' e (one u c us us' f none)))) =
@@ -178,7 +178,7 @@ module _ (text : List ℕ) where
       record {
         raw = picks.Truncate v.raw;
         derived = inr (inr (inr (into_derived picks.Truncate (grammar.behind symbol.Truncate grammar.version_name) (lexeme symbol.Truncate w ∷ lexeme symbol.Number t ∷ lexeme symbol.Dot y ∷ lexeme symbol.Number c ∷ []) v.raw
-          (behind_derived symbol.Truncate grammar.version_name w (lexeme symbol.Number t ∷ lexeme symbol.Dot y ∷ lexeme symbol.Number c ∷ []) v.raw refl v.derived))));
+            (behind_derived symbol.Truncate grammar.version_name w (lexeme symbol.Number t ∷ lexeme symbol.Dot y ∷ lexeme symbol.Number c ∷ []) v.raw refl v.derived))));
         same = ap pick.Truncate v.same;
         passes = pass (not (nat_le (number_of text v.raw.client) GREATEST_PLANNED)) v.raw.client fault.PlanRange [] v.small refl;
         counts = λ d r. (1, refl);

@@ -65,9 +65,9 @@ module _ (text : List ℕ) (base : Script) (st : Stated) (known : AreTables base
       let derived = r.read.derived in
       let count : counted 0 0 ls ≡ Ok (0, 0) = limits_are_counts.counts ls raw derived in
       let same : prog_of text base.tables t raw ≡ p =
-        ap (λ (n : List ℕ). let x : Named = record { name = n; locals = names_of text raw; body = bound_body text base.tables raw } in x) b'
-        ∙ ap (λ (ns : Names). let x : Named = record { name = p.name; locals = ns; body = bound_body text base.tables raw } in x) r.names
-        ∙ ap (λ (cs : lang.Commands). let x : Named = record { name = p.name; locals = p.locals; body = cs } in x) r.whole in
+      ap (λ (n : List ℕ). let x : Named = record { name = n; locals = names_of text raw; body = bound_body text base.tables raw } in x) b'
+      ∙ ap (λ (ns : Names). let x : Named = record { name = p.name; locals = ns; body = bound_body text base.tables raw } in x) r.names
+      ∙ ap (λ (cs : lang.Commands). let x : Named = record { name = p.name; locals = p.locals; body = cs } in x) r.whole in
       says_one text program (lexeme symbol.Program w ∷ lexeme symbol.Name t ∷ ls) (with_progs before) (with_progs (before ++ p ∷ [])) (Program w t raw)
       (program_derived w t ls raw (free_block derived))
       (none_first (table_checks text base.tables raw)

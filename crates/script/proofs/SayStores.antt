@@ -81,7 +81,7 @@ module _ (text : List ℕ) (base : Script) (st : Stated) where
   signed_read (negsuc n) small zs (one p w ps ps' b (one q t qs qs' b' none)) = record {
     raw = record { minus = true; digits = t };
     derived = inl (into_derived (λ x. record { minus = true; digits = x.1 }) (Both (One minus_of (symbol.Op op.Sub)) number) (lexeme (symbol.Op op.Sub) w ∷ lexeme symbol.Number t ∷ []) ((tt, w), t)
-      (both_derived (One minus_of (symbol.Op op.Sub)) number (lexeme (symbol.Op op.Sub) w ∷ []) (lexeme symbol.Number t ∷ []) (tt, w) t (one_derived minus_of (symbol.Op op.Sub) (symbol.Op op.Sub) w tt refl) (token_derived symbol.Number t refl)));
+        (both_derived (One minus_of (symbol.Op op.Sub)) number (lexeme (symbol.Op op.Sub) w ∷ []) (lexeme symbol.Number t ∷ []) (tt, w) t (one_derived minus_of (symbol.Op op.Sub) (symbol.Op op.Sub) w tt refl) (token_derived symbol.Number t refl)));
     same = ap (λ (m : ℕ). neg_ℤ (pos m)) (number_back text t (suc n) small b');
   }
 
@@ -147,13 +147,13 @@ module _ (text : List ℕ) (base : Script) (st : Stated) where
     unfolding store first
     first_derived w t x y front back i v di dv =
         let inner = both_derived (behind symbol.OpenIndex signed_rule) (behind symbol.CloseIndex signed_rule) (lexeme symbol.OpenIndex x ∷ front) (lexeme symbol.CloseIndex y ∷ back) i v
-          (behind_derived symbol.OpenIndex signed_rule x front i refl di) (behind_derived symbol.CloseIndex signed_rule y back v refl dv) in
+        (behind_derived symbol.OpenIndex signed_rule x front i refl di) (behind_derived symbol.CloseIndex signed_rule y back v refl dv) in
         let middle = both_derived name (Both (behind symbol.OpenIndex signed_rule) (behind symbol.CloseIndex signed_rule)) (lexeme symbol.Name t ∷ []) (lexeme symbol.OpenIndex x ∷ (front ++ lexeme symbol.CloseIndex y ∷ back)) t (i, v)
-          (token_derived symbol.Name t refl) inner in
+        (token_derived symbol.Name t refl) inner in
         let whole = both_derived (token symbol.First) (Both name (Both (behind symbol.OpenIndex signed_rule) (behind symbol.CloseIndex signed_rule))) (lexeme symbol.First w ∷ [])
-          (lexeme symbol.Name t ∷ lexeme symbol.OpenIndex x ∷ (front ++ lexeme symbol.CloseIndex y ∷ back)) w (t, (i, v)) (token_derived symbol.First w refl) middle in
+        (lexeme symbol.Name t ∷ lexeme symbol.OpenIndex x ∷ (front ++ lexeme symbol.CloseIndex y ∷ back)) w (t, (i, v)) (token_derived symbol.First w refl) middle in
         inr (into_derived (λ x. First x.0 x.1.0 x.1.1.0 x.1.1.1) (Both (token symbol.First) (Both name (Both (behind symbol.OpenIndex signed_rule) (behind symbol.CloseIndex signed_rule))))
-          (lexeme symbol.First w ∷ lexeme symbol.Name t ∷ lexeme symbol.OpenIndex x ∷ (front ++ lexeme symbol.CloseIndex y ∷ back)) (w, (t, (i, v))) whole)
+        (lexeme symbol.First w ∷ lexeme symbol.Name t ∷ lexeme symbol.OpenIndex x ∷ (front ++ lexeme symbol.CloseIndex y ∷ back)) (w, (t, (i, v))) whole)
 
     first_says : (before : List FirstValue) (f : FirstValue) (ls : List Lexeme) → IsFirst (length tables) f → has_first f.key before ≡ false → Lexed text (first_line tables f) ls →
         Says text (Many store) ls (with_firsts before) (with_firsts (before ++ f ∷ []))
@@ -164,11 +164,11 @@ module _ (text : List ℕ) (base : Script) (st : Stated) where
         let known = ap (is_known tables) r.named ∙ known_here tables distinct f.key.table of.known in
         let here : place tables (token_bytes text r.table_name) ≡ f.key.table = ap (place tables) r.named ∙ place_of tables distinct f.key.table of.known in
         let same : first_of text tables r.table_name i.raw v.raw ≡ f =
-          ap (λ (n : ℕ). let g : FirstValue = record { key = record { table = n; index = signed text i.raw }; value = signed text v.raw } in g) here
-          ∙ ap (λ (z : ℤ). let g : FirstValue = record { key = record { table = f.key.table; index = z }; value = signed text v.raw } in g) i.same
-          ∙ ap (λ (z : ℤ). let g : FirstValue = record { key = f.key; value = z } in g) v.same in
+        ap (λ (n : ℕ). let g : FirstValue = record { key = record { table = n; index = signed text i.raw }; value = signed text v.raw } in g) here
+        ∙ ap (λ (z : ℤ). let g : FirstValue = record { key = record { table = f.key.table; index = z }; value = signed text v.raw } in g) i.same
+        ∙ ap (λ (z : ℤ). let g : FirstValue = record { key = f.key; value = z } in g) v.same in
         let calm = calm_both 0 (lexeme symbol.First r.word ∷ lexeme symbol.Name r.table_name ∷ lexeme symbol.OpenIndex r.open_index ∷ r.front) (lexeme symbol.CloseIndex r.close_index ∷ r.back)
-          (λ n. (calm_signed f.key.index r.front r.index r.open_index).0 1) (calm_signed f.value r.back r.value r.close_index).1 in
+        (λ n. (calm_signed f.key.index r.front r.index r.open_index).0 1) (calm_signed f.value r.back r.value r.close_index).1 in
         subst (λ (ms : List Lexeme). Says text (Many store) ms (with_firsts before) (with_firsts (before ++ f ∷ []))) (sym r.split)
         (says_one text store (lexeme symbol.First r.word ∷ lexeme symbol.Name r.table_name ∷ lexeme symbol.OpenIndex r.open_index ∷ (r.front ++ lexeme symbol.CloseIndex r.close_index ∷ r.back))
         (with_firsts before) (with_firsts (before ++ f ∷ [])) (First r.word r.table_name i.raw v.raw)

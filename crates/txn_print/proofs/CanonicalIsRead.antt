@@ -1,6 +1,5 @@
 -- The canonical text of a program is read as that program.
 use Rattle.std.proofs.Common.{◌≡◌, ℕ, ◌+◌, ◌≤◌, Bool, true, false, List, [], ◌∷◌, ◌++◌, length, take, refl, sym, ap, ◌∙◌, subst, arith}
-
 use Rattle.std.proofs.lemmas.List.{append-nil}
 use Rattle.txn_lang.specs.declared.limits.TheConstants.{DEEPEST_BLOCK}
 use Rattle.txn_lang.specs.Tree as lang
@@ -67,9 +66,9 @@ canonical_is_read tables p known is written =
       block = raw;
       derived = r.read.derived;
       passes = λ line.
-        none_first (table_checks text tables raw) (local_checks text [] raw ++ limit_check text tables raw line ∷ []) r.read.told.known
-        ∙ none_first (local_checks text [] raw) (limit_check text tables raw line ∷ []) r.read.told.passes
-        ∙ ap (λ (b : Bool). first_failing (record { fails = b; line = line; kind = ProgramLimit } ∷ [])) r.limit;
+          none_first (table_checks text tables raw) (local_checks text [] raw ++ limit_check text tables raw line ∷ []) r.read.told.known
+          ∙ none_first (local_checks text [] raw) (limit_check text tables raw line ∷ []) r.read.told.passes
+          ∙ ap (λ (b : Bool). first_failing (record { fails = b; line = line; kind = ProgramLimit } ∷ [])) r.limit;
       names = r.names;
       body = r.whole;
     }

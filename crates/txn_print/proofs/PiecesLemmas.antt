@@ -74,15 +74,18 @@ module _ (locals : Names) (named : list_all is_name locals ≡ true) where
   module _ (tables : Names) (tabled : list_all is_name tables ≡ true) where
     mutual
       unfolding is_reserved is_setting_word is_item_word is_net_word is_plan_word is_statement_word
+
       command_are : (c : Command) → FitsIn (length locals) c → IsWrittenIn (length tables) c → ArePieces (command_pieces tables locals c)
       command_are (Let v e) fits written = (refl, (name_is locals v fits.0 named, (refl, term_are e fits.1.0 written)))
       command_are (Read v t i) fits written = (refl, (name_is locals v fits.0 named, (name_is tables t written.0 tabled, index_are i fits.1.0 written.1)))
       command_are (Write t i e) fits written = (refl, (name_is tables t written.0 tabled, pieces_append (index_pieces locals i) (term_pieces locals e) (index_are i fits.0.0 written.1) (term_are e fits.1.0 written.2)))
       command_are (Print e) fits written = (refl, term_are e fits.0 written)
-      command_are (If e a b) fits written =
-          (refl, pieces_append (term_pieces locals e ++ in_braces (first_pieces tables locals a)) (else_pieces tables locals b)
-          (pieces_append (term_pieces locals e) (in_braces (first_pieces tables locals a)) (term_are e fits.0.0 written.0) (braces_are (first_pieces tables locals a) (first_are a fits.1 written.1)))
-          (else_are b fits.2 written.2))
+      command_are (If e a b) fits written = (
+        refl,
+        pieces_append (term_pieces locals e ++ in_braces (first_pieces tables locals a)) (else_pieces tables locals b)
+            (pieces_append (term_pieces locals e) (in_braces (first_pieces tables locals a)) (term_are e fits.0.0 written.0) (braces_are (first_pieces tables locals a) (first_are a fits.1 written.1)))
+            (else_are b fits.2 written.2),
+      )
       command_are (Repeat n body) fits written = let few = fits.0 in (refl, (omega (arith, few), braces_are (first_pieces tables locals body) (first_are body fits.1 written)))
       command_are Abort fits written = (refl, tt)
 

@@ -103,7 +103,7 @@ module _ (text : List ℕ) (tables locals : Names) where
   more_then k d x ls front back c cs split s r = record {
     raw = Then s.raw r.raw;
     derive = λ before c' st. subst (λ (zs : List Lexeme). IsStmts (inner d) (before ++ lexeme symbol.Semicolon x ∷ zs) (Then c' (Then s.raw r.raw))) (sym split)
-      (further (inner d) x before (front ++ back) c' (Then s.raw r.raw) st (r.derive front s.raw s.derived));
+        (further (inner d) x before (front ++ back) c' (Then s.raw r.raw) st (r.derive front s.raw s.derived));
     told = told_then k d front back c cs s r;
   }
 
@@ -221,7 +221,7 @@ module _ (text : List ℕ) (tables locals : Names) where
               raw = Read t s e.raw;
               derived = subst (λ (ms : List Lexeme). IsStmt (inner d) (lexeme symbol.Read w ∷ lexeme symbol.Name t ∷ lexeme symbol.Name s ∷ ms) (Read t s e.raw)) (sym split) (reads (inner d) w t s r.x r.y r.front e.raw e.derived);
               stands = ap (λ (x : ℕ). lang.Read x (place tables (token_bytes text s)) (bound_term text locals e.raw)) (place_back v t name below)
-                ∙ ap (λ (x : ℕ). lang.Read v x (bound_term text locals e.raw)) (table_back n s table within) ∙ ap (lang.Read v n) e.stands;
+                  ∙ ap (λ (x : ℕ). lang.Read v x (bound_term text locals e.raw)) (table_back n s table within) ∙ ap (lang.Read v n) e.stands;
               names = named;
               passes = ap (λ (ns : Names). first_failing (used_checks text ns e.raw)) named ∙ e.used;
               known = table_known n s table within;
@@ -236,7 +236,7 @@ module _ (text : List ℕ) (tables locals : Names) where
           raw = Write s f.raw q.raw;
           derived = subst (λ (ms : List Lexeme). IsStmt (inner d) (lexeme symbol.Write w ∷ lexeme symbol.Name s ∷ ms) (Write s f.raw q.raw)) (sym r.split) (writes (inner d) w s r.x r.y r.front r.back f.raw q.raw f.derived q.derived);
           stands = ap (λ (x : ℕ). lang.Write x (bound_term text locals f.raw) (bound_term text locals q.raw)) (table_back n s table within)
-            ∙ ap (λ (x : lang.Term). lang.Write n x (bound_term text locals q.raw)) f.stands ∙ ap (lang.Write n i) q.stands;
+              ∙ ap (λ (x : lang.Term). lang.Write n x (bound_term text locals q.raw)) f.stands ∙ ap (lang.Write n i) q.stands;
           names = refl;
           passes = both_pass (used_checks text (take k locals) f.raw) (used_checks text (take k locals) q.raw) f.used q.used;
           known = table_known n s table within;
@@ -259,10 +259,10 @@ module _ (text : List ℕ) (tables locals : Names) where
           raw = If r.raw f.raw g.raw;
           derived = subst (λ (zs : List Lexeme). IsStmt (inner d) (lexeme symbol.If w ∷ zs) (If r.raw f.raw g.raw)) (sym whole) (g.derive w es ns r.raw f.raw r.derived f.derived);
           stands = ap (λ (x : lang.Term). lang.If x (bound text tables locals f.raw) (bound text tables locals g.raw)) r.stands
-            ∙ ap (λ (x : lang.Commands). lang.If e x (bound text tables locals g.raw)) p.stands ∙ ap (lang.If e a) q.stands;
+              ∙ ap (λ (x : lang.Commands). lang.If e x (bound text tables locals g.raw)) p.stands ∙ ap (lang.If e a) q.stands;
           names = ap (names_after text g.raw) after ∙ q.names;
           passes = both_pass (used_checks text (take k locals) r.raw) (local_checks text (take k locals) f.raw ++ local_checks text (names_after text f.raw (take k locals)) g.raw) r.used
-            (both_pass (local_checks text (take k locals) f.raw) (local_checks text (names_after text f.raw (take k locals)) g.raw) p.passes (ap (λ (ns : Names). first_failing (local_checks text ns g.raw)) after ∙ q.passes));
+              (both_pass (local_checks text (take k locals) f.raw) (local_checks text (names_after text f.raw (take k locals)) g.raw) p.passes (ap (λ (ns : Names). first_failing (local_checks text ns g.raw)) after ∙ q.passes));
           known = two_known (tables_of f.raw) (tables_of g.raw) p.known q.known;
           times = omega (arith, m, n);
         }

@@ -49,6 +49,7 @@ module _ (text : List ℕ) (tables locals : Names) (distinct : IsDistinct bytes_
 
   mutual
     unfolding words marks
+
     stmt_read : (c : lang.Command) (k d : ℕ) → depth_in c ≤ d → IsFormedIn n k c → FitsIn n c → IsWrittenIn (length tables) c → (ls : List Lexeme) → Lexed text (command_pieces tables locals c) ls → StmtRead text tables locals k d ls c
     stmt_read (lang.Let v e) k d deep formed fits written zs (one p w ps ps' b (one q t qs qs' b' (one r s rs ls b'' l))) =
         let_read text tables locals distinct named k d v e w t s ls (name_spelled text locals v t b') fits.0 formed.0 (expr text tables locals distinct named _ d e formed.1 fits.1 written ls l)

@@ -154,8 +154,8 @@ module _ (text : List ℕ) (locals : Names) (distinct : IsDistinct bytes_eq loca
         derived = subst (λ (zs : List Lexeme). IsExpr (operator_level o) zs (Bin o left.raw r.raw)) (sym split) spelled;
         bound = ap (λ (x : lang.Term). lang.Bin o x (bound_term text locals r.raw)) left.bound ∙ ap (λ (x : lang.Term). lang.Bin o a x) r.bound;
         used =
-          ap first_failing (map-append _ (locals_of left.raw) (locals_of r.raw))
-          ∙ none_first (used_checks text (take k locals) left.raw) (used_checks text (take k locals) r.raw) left.used ∙ r.used;
+            ap first_failing (map-append _ (locals_of left.raw) (locals_of r.raw))
+            ∙ none_first (used_checks text (take k locals) left.raw) (used_checks text (take k locals) r.raw) left.used ∙ r.used;
       }
 
   pub term_read : (e : lang.Term) → IsFormedTerm (length locals) k e → UsesBelow e (length locals) → HasNumbers e → (ls : List Lexeme) → Lexed text (term_pieces locals e) ls → TermRead text locals k (bare_level e) ls e
