@@ -1,11 +1,18 @@
 //! Tests of the parts of the nodes, by their public calls alone: copies of messages, frames to the byte with the
-//! fault of each bad field, the mail, and a warden's recoveries and truncations. Nothing stands on this crate.
+//! fault of each bad field, the mail, a warden's recoveries and truncations, and a replica's answers to each kind of
+//! envelope, with its records. Nothing stands on this crate.
 #![tactic(auto)]
 
+#[cfg(test)]
+mod bodies;
+#[cfg(test)]
+mod drops;
 #[cfg(test)]
 mod fixture;
 #[cfg(test)]
 mod frames;
+#[cfg(test)]
+mod keeping_records;
 #[cfg(test)]
 mod mail;
 #[cfg(test)]
@@ -13,6 +20,12 @@ mod messages;
 #[cfg(test)]
 mod recovering;
 #[cfg(test)]
+mod replying;
+#[cfg(test)]
 mod rows;
+#[cfg(test)]
+mod sample;
+#[cfg(test)]
+mod stories;
 #[cfg(test)]
 mod truncating;
