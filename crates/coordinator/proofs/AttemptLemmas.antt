@@ -90,7 +90,7 @@ stands_begun g c m begun attempt s there few late fresh = record {
 pub txns_are : (g : Given) (c : ClientState) (m : Memory) → StandsFor g c m → length g.rules.txns ≡ length m.plan.txns
 txns_are g c m s = ap (λ (r : protocol.Rules). length r.txns) s.rules ∙ length-map m.plan.txns (txn_in g.programs)
 
-below : (a b : ℕ) → nat_lt a b ≡ true → a < b
+pub below : (a b : ℕ) → nat_lt a b ≡ true → a < b
 below a b e = grind (arith, nat_tests)
 
 both : (a b : Bool) → (a && b) ≡ true → (a ≡ true) × (b ≡ true)

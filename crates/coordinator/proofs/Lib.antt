@@ -2,3 +2,4 @@ pub mod MemoryLemmas
 pub mod AttemptLemmas
 pub mod SegmentLemmas
 pub mod StepLemmas
+pub mod DecidingLemmas

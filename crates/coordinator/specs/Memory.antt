@@ -140,3 +140,10 @@ awaits m serial = is_awaiting m && serial == m.course.serial
 abbrev pub pending_job : Memory → Option Job
 pending_job m = cond (is_awaiting m)
     (Some (record { client = m.plan.client; prog = prog_of (slice_get m.plan.txns (m.course.begun - 1)); serial = m.course.serial; at = m.execution.job })) None
+
+-- the next execution of the version begins
+abbrev pub rerun_memory : Memory → Memory
+rerun_memory m = record m {
+  course = record m.course { exec = record { ver = m.course.exec.ver; eid = min (m.course.exec.eid + 1) (2 ^ 32 - 1) } };
+  stage = stage.Running false;
+}

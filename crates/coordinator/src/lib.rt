@@ -10,6 +10,7 @@
 
 mod attempts;
 mod coordinator;
+mod deciding;
 mod memory;
 mod segments;
 
