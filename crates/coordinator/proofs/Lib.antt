@@ -3,3 +3,4 @@ pub mod AttemptLemmas
 pub mod SegmentLemmas
 pub mod StepLemmas
 pub mod DecidingLemmas
+pub mod CountingLemmas

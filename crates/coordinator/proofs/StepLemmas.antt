@@ -6,13 +6,14 @@ use Rattle.continuation.specs.declared.segment.Seg.{Seg}
 use Rattle.continuation.specs.declared.segment.JobAt.{JobAt}
 use Rattle.continuation.specs.Job.{IsJobRun}
 use Rattle.flat_code.specs.Operation.{Flat}
-use Rattle.protocol.specs.Words.{Body, Client, Envelope}
+use Rattle.protocol.specs.Words.{Body, Client, Content, Envelope}
+use Rattle.protocol.specs.Client.Counting.{hurried, propose}
 use Rattle.protocol.specs.Client.State as protocol
-use Rattle.protocol.specs.Client.State.{ClientState, Phase, Turn}
+use Rattle.protocol.specs.Client.State.{ClientState, CountedVote, Phase, Turn}
 use Rattle.protocol.specs.Client.State.Phase.{Between, Running, Prepared}
 use Rattle.protocol.specs.Client.Attempts.{ran}
-use Rattle.protocol.specs.Client.Step.{client_step, on_ran}
-use Rattle.protocol.specs.Client.Step.Input.{Runs}
+use Rattle.protocol.specs.Client.Step.{client_step, on_hurry, on_ran}
+use Rattle.protocol.specs.Client.Step.Input.{Runs, Hurries}
 use Rattle.protocol.specs.World.Events.{to_all}
 use Rattle.coordinator.specs.Memory.{Given, Takes, awaits, is_awaiting, pending_job, prog_of}
 use Rattle.coordinator.specs.Coordinator.{Does}
@@ -51,3 +52,17 @@ does g t m bodies sent before after takes same is = record {
       is ∙ ap (λ bs. before ++ flat_map (to_all m.plan.rules.replicas (Client m.plan.client)) bs) (same ∙ takes.sent)
       ∙ ap (λ (r : protocol.Rules). before ++ flat_map (to_all r.replicas (Client r.client)) t.sent) (sym takes.state.rules);
 }
+
+-- a client can hurry while prepared, until it proposed
+pub hurries_step : (r : protocol.Rules) (c : ClientState) (t : Turn) → client_step r c Hurries ≡ Some t →
+    (content : Content) × (votes : List CountedVote) × (accepts : List ℕ) × (c.phase ≡ Prepared content votes None accepts) × (t ≡ propose c content votes (hurried r.replicas votes))
+unfolding client_step on_hurry
+hurries_step r c t e = case c.phase refl e
+  where
+    case : (p : Phase) → c.phase ≡ p → on_hurry r c p ≡ Some t →
+        (content : Content) × (votes : List CountedVote) × (accepts : List ℕ) × (c.phase ≡ Prepared content votes None accepts) × (t ≡ propose c content votes (hurried r.replicas votes))
+    case Between is e = absurd (cc)
+    case (Running pending given) is e = absurd (cc)
+    case (Prepared content votes None accepts) is e =
+        (content, votes, accepts, is, let same : propose c content votes (hurried r.replicas votes) ≡ t = cc in sym same)
+    case (Prepared content votes (Some d) accepts) is e = absurd (cc)

@@ -4,7 +4,7 @@ ghost use Rattle.protocol.specs.Client.Attempts.{can_go, has_pending};
 ghost use Rattle.continuation.specs.Job.{FitsCode};
 ghost use Rattle.execution.specs.Execution.{Loaded};
 ghost use Rattle.protocol.specs.Client.Step.{client_step, on_hurry};
-ghost use Rattle.protocol.specs.Client.Step.Input.{Goes, Runs};
+ghost use Rattle.protocol.specs.Client.Step.Input.{Goes, Runs, Hurries};
 ghost use Rattle.coordinator.specs.Memory.{Given, IsWithinLimits, awaits, current, pending_job, rules_of};
 
 use crate::memory::{Attempt, Course, Memory, Plan, Rules, Stage, Txn2};
@@ -167,5 +167,22 @@ impl Coordinator {
         self.memory.plan.send(alloc, sent.as_slice(), out)?;
         self.broken = false;
         Ok(RanOut::Used)
+    }
+
+    /// Waits for no more votes: it proposes what the votes so far say. It needs that it can hurry.
+    pub fn hurry(&mut self, alloc: Global, out: &mut List<Envelope>) -> Result<(), NoMemory>
+        ensures turn { OnOk result ((g : Given) (c : ClientState) (t : Turn) → StandsFor g c self.old → client_step g.rules c Hurries ≡ Some t → Does g t self.new out.old out.new) }
+        ensures kept { OnErr result (out.new ≡ out.old) }
+        ensures broken { IsTrue (is_broken self.old) → IsErr result }
+        ensures breaks { OnErr result (IsTrue (is_broken self.new)) }
+    {
+        if self.broken {
+            return Err(NoMemory);
+        }
+        self.broken = true;
+        let sent = self.memory.hurry(alloc)?;
+        self.memory.plan.send(alloc, sent.as_slice(), out)?;
+        self.broken = false;
+        Ok(())
     }
 }

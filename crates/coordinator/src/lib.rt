@@ -10,6 +10,7 @@
 
 mod attempts;
 mod coordinator;
+mod counting;
 mod deciding;
 mod memory;
 mod segments;
