@@ -24,3 +24,6 @@ pub mod SayPlans
 pub mod SayItems
 pub mod CanonicalPieces
 pub mod CanonicalIsSaid
+pub mod BuilderLemmas
+mod ReadableItems
+pub mod ReadLemmas

@@ -105,12 +105,15 @@ abbrev pub net_checks : List ℕ → RawNet → List Check
 net_checks text (raw_net.Seeded seed late again hurry) = percentage_check text late ∷ percentage_check text again ∷ percentage_check text hurry ∷ []
 net_checks text n = []
 
+-- the checks of a program's own name
+abbrev pub name_checks : List ℕ → Script → Token → List Check
+name_checks text s name =
+    check (is_known (prog_names s) (token_bytes text name)) name fault.RepeatedProgram ∷
+    check (nat_le MOST_PROGRAMS (length s.progs)) name fault.TooManyPrograms ∷ []
+
 abbrev pub program_item_checks : List ℕ → Script → Token → Token → Commands → List Check
 program_item_checks text s word name body =
-    table_checks text s.tables body ++ (
-    check (is_known (prog_names s) (token_bytes text name)) name fault.RepeatedProgram ∷
-    check (nat_le MOST_PROGRAMS (length s.progs)) name fault.TooManyPrograms ∷ (
-    local_checks text [] body ++ limit_check text s.tables body word.line ∷ []))
+    table_checks text s.tables body ++ (name_checks text s name ++ (local_checks text [] body ++ limit_check text s.tables body word.line ∷ []))
 
 abbrev pub client_checks : List ℕ → Script → Token → Token → List RawTxn → List Check
 client_checks text s word n txns =

@@ -4,6 +4,7 @@ pub mod Items
 pub mod Grammar
 pub mod Meaning
 pub mod Checks
+pub mod Building
 pub mod Stages
 pub mod Texts
 pub mod Groups

@@ -3,7 +3,8 @@
 //! The definitions, in the order in which they build on each other: grammars as data (`Rules`) and when the next token
 //! decides what is read (`Fits`); the items of a script (`Items`) and their grammar (`Grammar`); what the items say, one
 //! after another (`Meaning`), and the checks that they pass (`Checks`); what the tokens are in the second stage
-//! (`Stages`), and what a text says: its script or its one fault (`Texts`); the canonical text of a script (`Canonical`), the
+//! (`Stages`), and what a text says: its script or its one fault (`Texts`); a setup while
+//! items are taken (`Building`); the canonical text of a script (`Canonical`), the
 //! scripts that some text says (`Sayable`), and that their canonical text says them (`ReadBack`). `Groups` tells the
 //! reader's way.
 //!
@@ -12,7 +13,9 @@
 //! nothing goes on (`Found`, `ReadingRules`, `RulesAreRead`, `RulesAnswer`). So where reading stops, the next token is bad
 //! (`Stopping`). The rules of scripts fit (`GrammarFits`), over the laws of blocks (`BlocksAreRead`). Hence the second
 //! stage is decided (`StageTwo`, `FirstPast`), and a text has one outcome (`OneOutcome`). The code reads by groups
-//! (`GroupLemmas`), lists item by item (`ListedLemmas`), and tokens one by one (`Taking`).
+//! (`GroupLemmas`), lists item by item (`ListedLemmas`), and tokens one by one (`Taking`). The items of a text are
+//! readable (`ReadableItems`): names are names, and blocks were read. So each is taken by its checks, what it names found by
+//! a search (`BuilderLemmas`), and all of them say the text's setup (`ReadLemmas`).
 //!
 //! The lines of a sayable script are pieces with the bytes of their kinds (`CanonicalPieces`). Line by line their tokens are
 //! items that pass their checks and say what they should (`SayLemmas`, then `SaySettings`, `SayStores`, `SayPrograms`,
@@ -22,19 +25,26 @@
 ghost use Rattle.script.specs.Texts.{OneOutcome};
 ghost use Rattle.script.specs.ReadBack.{CanonicalIsReadBack};
 
+mod builder;
 mod client_text;
 mod clients;
 mod items;
 mod limits;
 mod plan_text;
+mod planning;
 mod plans;
+mod read;
 mod readers;
 mod reading;
+mod settings;
 mod setup;
 mod stages;
 mod text;
 mod tokens;
+mod transactions;
+mod values;
 
+pub use builder::SetupBuilder;
 pub use items::{
     Calls, NodeKind, RawEntry, RawItem, RawNet, RawNode, RawPick, RawTxn, RawVersion, SettingName,
     Signed, Stated,
@@ -44,6 +54,7 @@ pub use limits::{
     MOST_CLIENTS, MOST_EXECS, MOST_PROGRAMS, MOST_TABLES, MOST_TRANSACTIONS, MOST_TRIES,
     MOST_TURNS, MOST_WARDENS,
 };
+pub use read::read_script;
 pub use setup::{First, NamedProg, Net, Policy, Setup, Txn};
 pub use stages::read_items;
 pub use text::script_text;
