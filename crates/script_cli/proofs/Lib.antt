@@ -1,2 +1,3 @@
 mod Answered
 mod Ran
+pub mod WordsLemmas

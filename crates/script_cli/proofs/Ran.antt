@@ -3,8 +3,11 @@ use Rattle.std.proofs.Common.{◌≡◌, ℕ, List, subst, Option, None, Some, a
 use Rattle.std.specs.Prelude.{IfSome}
 use Rattle.protocol.specs.Words.{Event}
 use Rattle.first_form.specs.declared.script.FirstScript.{FirstScript}
-use Rattle.script_cli.specs.TopCall.{IsReport, OfScript, IsQuietRun, IsDue, Bad_command, Read_failed, Too_long, Not_built, Reported, IsAnswered, Written, Cut, Out_of_memory}
+use Rattle.script_cli.specs.TopCall.{IsReport, OfScript, IsQuietRun, IsDue, Bad_command, Read_failed, Too_long, Not_built, Reported, Generated, IsAnswered, Written, Cut, Out_of_memory}
 use Rattle.first_form.proofs.OneScript.{one_script}
+use Rattle.script_cli.specs.declared.words.Command.TheVariants.{Run}
+use Rattle.script_cli.specs.Words.{command_of}
+use Rattle.script_cli.proofs.Answered.{not_run}
 
 -- what is so of every script is so of the source's, and one fact of it gives another
 module _ (left : Option (List ℕ)) (P : FirstScript → Type 0) where
@@ -31,17 +34,18 @@ reported_run (Some bytes) journal text report = λ script is.
 
 due_run :
     (words : List (List ℕ)) (left : Option (List ℕ)) (ReadFailed : Type 0) (status : ℕ) (journal : List Event) (text : List ℕ) →
-    IsDue words left ReadFailed status journal text → status ≡ 0 → OfScript left (λ script. IsQuietRun script journal)
-due_run words left R status journal text (Bad_command bad s j t) zero = absurd (omega arith)
-due_run words left R status journal text (Read_failed run failed s j t) zero = absurd (omega arith)
-due_run words left R status journal text (Too_long run long s j t) zero = absurd (omega arith)
-due_run words left R status journal text (Not_built run refused s j t) zero = absurd (omega arith)
-due_run words left R status journal text (Reported run report s) zero = reported_run left journal text report
+    IsDue words left ReadFailed status journal text → command_of words ≡ Some Run → status ≡ 0 → OfScript left (λ script. IsQuietRun script journal)
+due_run words left R status journal text (Bad_command bad s j t) asked zero = absurd (omega arith)
+due_run words left R status journal text (Read_failed run failed s j t) asked zero = absurd (omega arith)
+due_run words left R status journal text (Too_long run long s j t) asked zero = absurd (omega arith)
+due_run words left R status journal text (Not_built run refused s j t) asked zero = absurd (omega arith)
+due_run words left R status journal text (Reported run report s) asked zero = reported_run left journal text report
+due_run words left R status journal text (Generated seed size gen s j t) asked zero = absurd (not_run seed size words gen asked)
 
 -- with status 0 the journal is that of a run of the source's script
 pub quiet_run :
     (words : List (List ℕ)) (left : Option (List ℕ)) (ReadFailed : Type 0) (old new : Option (List ℕ)) (WriteFailed : Type 0) (status : ℕ) (journal : List Event) →
-    IsAnswered words left ReadFailed old new WriteFailed status journal → status ≡ 0 → OfScript left (λ script. IsQuietRun script journal)
-quiet_run words left R old new W status journal (Written text due takes) zero = due_run words left R status journal text due zero
-quiet_run words left R old new W status journal (Cut due text d takes failed e) zero = absurd (omega arith)
-quiet_run words left R old new W status journal (Out_of_memory r untouched nine empty) zero = absurd (omega arith)
+    IsAnswered words left ReadFailed old new WriteFailed status journal → command_of words ≡ Some Run → status ≡ 0 → OfScript left (λ script. IsQuietRun script journal)
+quiet_run words left R old new W status journal (Written text due takes) asked zero = due_run words left R status journal text due asked zero
+quiet_run words left R old new W status journal (Cut due text d takes failed e) asked zero = absurd (omega arith)
+quiet_run words left R old new W status journal (Out_of_memory k r untouched nine empty) asked zero = absurd (omega arith)

@@ -1,2 +1,3 @@
+pub mod Words
 pub mod TopCall
 pub mod Made

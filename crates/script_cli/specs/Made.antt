@@ -6,6 +6,8 @@ use Rattle.first_form.specs.declared.script.FirstScript.{FirstScript}
 use Rattle.script_cli.specs.declared.top.Made.{Made}
 use Rattle.script_cli.specs.declared.top.Made.TheVariants.{NotBuilt, Report}
 use Rattle.first_form.specs.FirstForm.{IsFirstForm}
+use Rattle.script.specs.Canonical.{canonical}
+use Rattle.lab.specs.Generated.{generated}
 use Rattle.script_cli.specs.TopCall.{report_text, IsQuietRun, not_built}
 
 -- the text is the report of the script's run with this journal
@@ -33,3 +35,8 @@ pub data IsTextAnswered (bytes : List ℕ) (old new : Option (List ℕ)) (WriteF
   Reported : (script : FirstScript) → IsFirstForm bytes script → IsQuietRun script journal → IsWritten old new WriteFailed (report_text script journal) 0 status → IsTextAnswered bytes old new WriteFailed status journal
   Refused : ((script : FirstScript) → ¬ IsFirstForm bytes script) → IsWritten old new WriteFailed not_built 3 status → journal ≡ [] → IsTextAnswered bytes old new WriteFailed status journal
   No_memory : new ≡ old → status ≡ 9 → journal ≡ [] → IsTextAnswered bytes old new WriteFailed status journal
+
+-- what is answered for a seed and a size: the canonical text of the generated script, or nothing
+pub data IsGenerated (seed size : ℕ) (old new : Option (List ℕ)) (WriteFailed : Type 0) (status : ℕ) (journal : List Event) : Type 0 where
+  Generated : IsWritten old new WriteFailed (canonical (generated seed size)) 0 status → journal ≡ [] → IsGenerated seed size old new WriteFailed status journal
+  Not_generated : new ≡ old → status ≡ 9 → journal ≡ [] → IsGenerated seed size old new WriteFailed status journal

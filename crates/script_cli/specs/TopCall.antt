@@ -1,5 +1,5 @@
 -- What the top call answers: the lines of its faults, the report of a run, and what is due for words and bytes.
-use Rattle.std.specs.Prelude.{◌≡◌, ◌≢◌, ℕ, ◌<◌, ◌≤◌, ◌⊎◌, List, [], ◌∷◌, ◌++◌, length, reverse, codes, Option, IfSome}
+use Rattle.std.specs.Prelude.{◌≡◌, ℕ, ◌<◌, ◌≤◌, ◌⊎◌, List, [], ◌∷◌, ◌++◌, length, reverse, codes, Option, Some, None, IfSome}
 use Rattle.protocol.specs.Words.{Quiet, Event}
 use Rattle.morty_io.specs.Bytes.{Takes, TakesPart}
 use Rattle.report.specs.Text.{line_feed, report_of}
@@ -10,10 +10,11 @@ use Rattle.first_form.specs.declared.script.FirstScript.{FirstScript}
 use Rattle.protocol_plans.specs.Scripted.{plan_of}
 use Rattle.first_form.specs.Script.{scripted, turns, world_of}
 use Rattle.first_form.specs.FirstForm.{IsFirstForm}
-
--- the one command: run
-abbrev pub run_words : List (List ℕ)
-run_words = codes "run" ∷ []
+use Rattle.script.specs.Canonical.{canonical}
+use Rattle.lab.specs.Generated.{generated}
+use Rattle.script_cli.specs.declared.words.Command.{Command}
+use Rattle.script_cli.specs.declared.words.Command.TheVariants.{Run, Gen}
+use Rattle.script_cli.specs.Words.{command_of}
 
 -- the greatest length of a script
 abbrev pub script_limit : ℕ
@@ -67,17 +68,18 @@ pub record IsReport (bytes : List ℕ) (journal : List Event) (text : List ℕ) 
 -- what is to be written for the words and for the bytes that the source had left, with the status that goes with
 -- it and the journal of the run that was made: the first of these that fits
 pub data IsDue (words : List (List ℕ)) (left : Option (List ℕ)) (ReadFailed : Type 0) (status : ℕ) (journal : List Event) (text : List ℕ) : Type 0 where
-  Bad_command : words ≢ run_words → status ≡ 2 → journal ≡ [] → text ≡ bad_command_line → IsDue words left ReadFailed status journal text
-  Read_failed : words ≡ run_words → ReadFailed → status ≡ 4 → journal ≡ [] → text ≡ read_failed → IsDue words left ReadFailed status journal text
-  Too_long : words ≡ run_words → IfSome left IsTooLong → status ≡ 3 → journal ≡ [] → text ≡ too_long → IsDue words left ReadFailed status journal text
-  Not_built : words ≡ run_words → IfSome left IsNotBuilt → status ≡ 3 → journal ≡ [] → text ≡ not_built → IsDue words left ReadFailed status journal text
-  Reported : words ≡ run_words → IfSome left (λ bytes. IsReport bytes journal text) → status ≡ 0 → IsDue words left ReadFailed status journal text
+  Bad_command : command_of words ≡ None → status ≡ 2 → journal ≡ [] → text ≡ bad_command_line → IsDue words left ReadFailed status journal text
+  Read_failed : command_of words ≡ Some Run → ReadFailed → status ≡ 4 → journal ≡ [] → text ≡ read_failed → IsDue words left ReadFailed status journal text
+  Too_long : command_of words ≡ Some Run → IfSome left IsTooLong → status ≡ 3 → journal ≡ [] → text ≡ too_long → IsDue words left ReadFailed status journal text
+  Not_built : command_of words ≡ Some Run → IfSome left IsNotBuilt → status ≡ 3 → journal ≡ [] → text ≡ not_built → IsDue words left ReadFailed status journal text
+  Reported : command_of words ≡ Some Run → IfSome left (λ bytes. IsReport bytes journal text) → status ≡ 0 → IsDue words left ReadFailed status journal text
+  Generated : (seed size : ℕ) → command_of words ≡ Some (Gen seed size) → status ≡ 0 → journal ≡ [] → text ≡ canonical (generated seed size) → IsDue words left ReadFailed status journal text
 
 -- the call wrote what was due, or the sink failed within it, or memory ran out before anything was written
 pub data IsAnswered (words : List (List ℕ)) (left : Option (List ℕ)) (ReadFailed : Type 0) (old new : Option (List ℕ)) (WriteFailed : Type 0) (status : ℕ) (journal : List Event) : Type 0 where
   Written : (text : List ℕ) → IsDue words left ReadFailed status journal text → Takes old new text → IsAnswered words left ReadFailed old new WriteFailed status journal
   Cut : (due : ℕ) (text : List ℕ) → IsDue words left ReadFailed due journal text → TakesPart old new text → WriteFailed → status ≡ 5 → IsAnswered words left ReadFailed old new WriteFailed status journal
-  Out_of_memory : words ≡ run_words → new ≡ old → status ≡ 9 → journal ≡ [] → IsAnswered words left ReadFailed old new WriteFailed status journal
+  Out_of_memory : (c : Command) → command_of words ≡ Some c → new ≡ old → status ≡ 9 → journal ≡ [] → IsAnswered words left ReadFailed old new WriteFailed status journal
 
 -- the bytes are refused, and the line that says why was written
 abbrev pub IsRefused : Option (List ℕ) → Option (List ℕ) → List ℕ → Type 0

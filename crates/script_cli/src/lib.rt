@@ -2,6 +2,8 @@
 #![tactic(auto)]
 
 mod top;
+mod words;
 
 pub use first_form::one_script;
 pub use top::{Exit, run_here};
+pub use words::{Command, read_words};

@@ -1,4 +1,4 @@
-ghost use Rattle.std.specs.Prelude.{◌≡◌, ◌≢◌, ◌↔◌, ◌≤◌, ◌⊎◌, [], length, codes, reverse, Some, IsTrue, IfSome, IfOk};
+ghost use Rattle.std.specs.Prelude.{◌≡◌, ◌≢◌, ◌≤◌, ◌⊎◌, ℕ, List as Listed, [], length, reverse, IfSome, IfOk};
 ghost use Rattle.morty_base.specs.declared.names.Ended.TheVariants.{Quiet};
 ghost use Rattle.net_core.specs.Marks.{end_of};
 ghost use Rattle.net_core.specs.Rounds.{InRounds};
@@ -7,16 +7,22 @@ ghost use Rattle.world.specs.Machine.{machine_of};
 ghost use Rattle.law_outcomes.specs.Outcome.{IsCorrectThroughout};
 ghost use Rattle.protocol_plans.specs.Scripted.{plan_of};
 ghost use Rattle.first_form.specs.Script.{scripted, turns};
-ghost use Rattle.script_cli.specs.TopCall.{run_words, bad_command_line, read_failed as read_failed_line, IsAnswered, IsReported, IsRefused, IsFirstScript, OfScript, IsCut, IsStatus};
+ghost use Rattle.script.specs.Canonical.{canonical};
+ghost use Rattle.lab.specs.Generated.{generated};
+ghost use Rattle.script_cli.specs.Words.{command_of, IsInRange};
+ghost use Rattle.script_cli.specs.TopCall.{bad_command_line, read_failed as read_failed_line, IsAnswered, IsReported, IsRefused, IsFirstScript, OfScript, IsCut, IsStatus};
 ghost use Rattle.morty_io.specs.Faults.{Rose};
 ghost use Rattle.morty_io.specs.Bytes.{Takes};
 ghost use Rattle.first_form.specs.declared.script.FirstScript.{FirstScript as FirstScriptValue};
-ghost use Rattle.script_cli.specs.Made.{IsReportOf, IsMadeOf, IsWritten, IsTextAnswered};
+ghost use Rattle.script_cli.specs.Made.{IsReportOf, IsMadeOf, IsWritten, IsTextAnswered, IsGenerated};
 
+use crate::words::{Command, read_words};
 use first_form::{Event, FirstScript, Run, read_first_form, run_script};
+use lab::gen_script;
 use morty_base::{Ended, List, NoMemory};
 use morty_io::{ReadEnd, Sink, Source, read_whole, write_whole};
 use report::report_text;
+use script::script_text;
 use std::alloc::Global;
 
 /// How a call of the program ended: its status, and the events of the run that it made, if it made one.
@@ -34,26 +40,6 @@ const SCRIPT_LIMIT: usize = 1_048_576;
 pub enum Made {
     NotBuilt,
     Report(List<u8>, List<Event>),
-}
-
-/// Whether the word is the one command.
-fn is_run_word(word: &List<u8>) -> bool
-    ensures { IsTrue result ↔ (word.now ≡ codes "run") }
-{
-    word.as_slice() == b"run".as_slice()
-}
-
-/// Whether the words are the one command.
-fn is_run(words: &[List<u8>]) -> bool
-    ensures { IsTrue result ↔ (words.now ≡ run_words) }
-{
-    match words.split_first() {
-        Some((word, rest)) => match rest.split_first() {
-            Some(_) => false,
-            None => is_run_word(word),
-        },
-        None => false,
-    }
 }
 
 /// The report of a script's run.
@@ -120,15 +106,12 @@ fn answer_text<K: Sink>(alloc: Global, text: &[u8], out: &mut K) -> Exit
     }
 }
 
-/// Answers the words and the source's bytes.
-fn answer<S: Source, K: Sink>(alloc: Global, words: &[List<u8>], src: &mut S, out: &mut K) -> Exit
-    ensures answered { IsAnswered words.now (S.left src.old) (Rose (S.faults src.old) (S.faults src.new))
+/// Answers the source's bytes for the words that ask for a run.
+fn answer_run<S: Source, K: Sink>(alloc: Global, src: &mut S, out: &mut K) -> Exit
+    ensures answered { (words : Listed (Listed ℕ)) → command_of words ≡ Some Command.Run → IsAnswered words (S.left src.old) (Rose (S.faults src.old) (S.faults src.new))
         (K.taken out.old) (K.taken out.new) (Rose (K.faults out.old) (K.faults out.new)) result.status result.journal.items }
     ensures emptied { result.status ≡ 0 → IfSome (S.left src.old) (λ _. S.left src.new ≡ Some []) }
 {
-    if !is_run(words) {
-        return write_line(alloc, out, 2, b"morty: bad command line\n");
-    }
     match read_whole(alloc, src, SCRIPT_LIMIT) {
         Ok(text) => answer_text(alloc, text.as_slice(), out),
         Err(ReadEnd::ReadFault) => write_line(alloc, out, 4, b"morty: read failed\n"),
@@ -137,24 +120,61 @@ fn answer<S: Source, K: Sink>(alloc: Global, words: &[List<u8>], src: &mut S, ou
     }
 }
 
-/// The program: reads a script from the source for the one word `run`, runs it in this thread, and writes the
-/// report to the sink, or a line that says why there is none. The journal has the events of the run, if there was one.
+/// The canonical text of a generated script.
+fn generated_text(alloc: Global, seed: u64, size: u32) -> Result<List<u8>, NoMemory>
+    requires { IsInRange (Command.Gen seed size) }
+    ensures { IfOk result (λ text. text ≡ canonical (generated seed size)) }
+{
+    let setup = gen_script(alloc, seed, size)?;
+    let text = script_text(alloc, &setup)?;
+    Ok(text)
+}
+
+/// Writes a generated script.
+fn generate<K: Sink>(alloc: Global, seed: u64, size: u32, out: &mut K) -> Exit
+    requires { IsInRange (Command.Gen seed size) }
+    ensures { IsGenerated seed size (K.taken out.old) (K.taken out.new) (Rose (K.faults out.old) (K.faults out.new)) result.status result.journal.items }
+{
+    match generated_text(alloc, seed, size) {
+        Ok(text) => write(out, 0, text.as_slice(), Vec::new(alloc)),
+        Err(_) => out_of_memory(alloc),
+    }
+}
+
+/// Answers the words and the source's bytes.
+fn answer<S: Source, K: Sink>(alloc: Global, words: &[List<u8>], src: &mut S, out: &mut K) -> Exit
+    ensures answered { IsAnswered words.now (S.left src.old) (Rose (S.faults src.old) (S.faults src.new))
+        (K.taken out.old) (K.taken out.new) (Rose (K.faults out.old) (K.faults out.new)) result.status result.journal.items }
+    ensures emptied { command_of words.now ≡ Some Command.Run → result.status ≡ 0 → IfSome (S.left src.old) (λ _. S.left src.new ≡ Some []) }
+    ensures unread { command_of words.now ≢ Some Command.Run → src.new ≡ src.old }
+{
+    match read_words(words) {
+        None => write_line(alloc, out, 2, b"morty: bad command line\n"),
+        Some(Command::Run) => answer_run(alloc, src, out),
+        Some(Command::Gen { seed, size }) => generate(alloc, seed, size, out),
+    }
+}
+
+/// The program: for the word `run` it reads a script from the source, runs it in this thread, and writes the report to the
+/// sink, or a line that says why there is none; for `gen SEED SIZE` it writes a generated script and reads nothing. The
+/// journal has the events of the run, if there was one. The commands `check`, `serial`, `trace` and `big`, and workers, are
+/// not built: their words are bad ones.
 pub fn run_here<S: Source, K: Sink>(
     alloc: Global,
     words: &[List<u8>],
     src: &mut S,
     out: &mut K,
 ) -> Exit
-    // 0: the source was read to its end, and the report was written of the world that the journal's events make. The
+    // 0 for `run`: the source was read to its end, and the report was written of the world that the journal's events make. The
     // journal is that of a run of the source's script: the nodes took turns in rounds, each pick is the fair one, and
     // the run ended quiet.
-    ensures reported { result.status ≡ 0 → IfSome (S.left src.old) (IsReported (K.taken out.old) (K.taken out.new) result.journal.items) }
-    ensures emptied { result.status ≡ 0 → IfSome (S.left src.old) (λ _. S.left src.new ≡ Some []) }
-    ensures ended { result.status ≡ 0 →
+    ensures reported { command_of words.now ≡ Some Command.Run → result.status ≡ 0 → IfSome (S.left src.old) (IsReported (K.taken out.old) (K.taken out.new) result.journal.items) }
+    ensures emptied { command_of words.now ≡ Some Command.Run → result.status ≡ 0 → IfSome (S.left src.old) (λ _. S.left src.new ≡ Some []) }
+    ensures ended { command_of words.now ≡ Some Command.Run → result.status ≡ 0 →
         OfScript (S.left src.old) (λ script. end_of (machine_of (plan_of (scripted script))) turns (reverse result.journal.items) ≡ Some Quiet) }
-    ensures in_rounds { result.status ≡ 0 →
+    ensures in_rounds { command_of words.now ≡ Some Command.Run → result.status ≡ 0 →
         OfScript (S.left src.old) (λ script. InRounds (machine_of (plan_of (scripted script))) turns (reverse result.journal.items)) }
-    ensures fair_picks { result.status ≡ 0 →
+    ensures fair_picks { command_of words.now ≡ Some Command.Run → result.status ≡ 0 →
         OfScript (S.left src.old) (λ script. AllFair (machine_of (plan_of (scripted script))) (reverse result.journal.items)) }
 
     // Whatever the status, at each moment of the journal: no execution is decided two ways by two nodes, at most one
@@ -162,12 +182,16 @@ pub fn run_here<S: Source, K: Sink>(
     // sent carries the base of the world at its version.
     ensures correct { OfScript (S.left src.old) (λ script. IsCorrectThroughout (scripted script) result.journal.items) }
 
-    // 2: exactly where the words are not the one word `run`, unless the sink fails.
-    ensures bad_words { result.status ≡ 2 → (words.now ≢ run_words) × Takes (K.taken out.old) (K.taken out.new) bad_command_line }
-    ensures good_words { words.now ≢ run_words → (result.status ≡ 2) ⊎ (result.status ≡ 5) }
+    // 0 for `gen`: the canonical text of the generated script was written, and nothing was read.
+    ensures generated { (seed size : ℕ) → command_of words.now ≡ Some (Command.Gen seed size) → result.status ≡ 0 → Takes (K.taken out.old) (K.taken out.new) (canonical (generated seed size)) }
+    ensures unread { command_of words.now ≢ Some Command.Run → src.new ≡ src.old }
+
+    // 2: exactly where the words are no command, unless the sink fails.
+    ensures bad_words { result.status ≡ 2 → (command_of words.now ≡ None) × Takes (K.taken out.old) (K.taken out.new) bad_command_line }
+    ensures good_words { command_of words.now ≡ None → (result.status ≡ 2) ⊎ (result.status ≡ 5) }
 
     // 3: the bytes are too many, or no script of the first form.
-    ensures refused { result.status ≡ 3 → (words.now ≡ run_words) × IfSome (S.left src.old) (IsRefused (K.taken out.old) (K.taken out.new)) }
+    ensures refused { result.status ≡ 3 → (command_of words.now ≡ Some Command.Run) × IfSome (S.left src.old) (IsRefused (K.taken out.old) (K.taken out.new)) }
 
     // 4 and 5: only where a fault of the source or of the sink was counted.
     ensures read_failed { result.status ≡ 4 → Rose (S.faults src.old) (S.faults src.new) × Takes (K.taken out.old) (K.taken out.new) read_failed_line }
@@ -177,9 +201,10 @@ pub fn run_here<S: Source, K: Sink>(
     // 9: want of memory, before anything is written.
     ensures no_memory { result.status ≡ 9 → K.taken out.new ≡ K.taken out.old }
 
-    // A script of the first form is run where nothing fails, and there are no other statuses.
-    ensures complete { words.now ≡ run_words → ¬ Rose (S.faults src.old) (S.faults src.new) → ¬ Rose (K.faults out.old) (K.faults out.new) →
+    // A script of the first form is run, and a script is generated, where nothing fails, and there are no other statuses.
+    ensures complete { command_of words.now ≡ Some Command.Run → ¬ Rose (S.faults src.old) (S.faults src.new) → ¬ Rose (K.faults out.old) (K.faults out.new) →
         IfSome (S.left src.old) (λ bytes. (script : FirstScriptValue) → IsFirstScript bytes script → (result.status ≡ 0) ⊎ (result.status ≡ 9)) }
+    ensures generates { (seed size : ℕ) → command_of words.now ≡ Some (Command.Gen seed size) → ¬ Rose (K.faults out.old) (K.faults out.new) → (result.status ≡ 0) ⊎ (result.status ≡ 9) }
     ensures known { IsStatus result.status }
     ensures unrun { result.status ≢ 0 → result.status ≢ 5 → result.journal.items ≡ [] }
 {

@@ -17,6 +17,7 @@ mod kinds;
 mod scan;
 mod slices;
 
+pub use bytes::number;
 pub use faults::{FaultKind, TextFault};
 pub use kinds::{Token, TokenKind};
 pub use scan::tokens;
