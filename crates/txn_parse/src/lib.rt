@@ -7,18 +7,21 @@
 //! of tokens, for any grammar (`Faults`), the names of a block with the checks that it passes (`Binding`), and an index of
 //! names (`NameIndex`).
 //!
-//! The proof: what is open in an expression stands for the tokens that were read (`PendingLemmas`); a block's statements
-//! are read one after another (`ReadingLemmas`); what is within limits is in the grammar without them (`LimitsLemmas`).
-//! So what a reader finds is in the grammar, and its fault is at the first bad token (`Sound`, then `SoundExpr`,
-//! `SoundStmts`, `Separators` and `SoundBlocks`); and what is in the grammar is found (`CompleteExpr`,
-//! `CompleteBlocks`). Both give the laws of whole blocks (`Laws`). A block is within the limits just where its counts
-//! are (`CountsLemmas`), a list has one fault at most (`OneFault`), and a reader without limits (`FreeBlocks`), whose
-//! limits are as wide as the list (`WideLimits`), decides whether it has one (`FaultIsDecided`).
+//! The proof: what is open in an expression stands for the tokens that were read (`PendingLemmas`), one after another
+//! (`ExprLemmas`), and so are a block's statements (`ReadingLemmas`); what is within limits is in the grammar without them
+//! (`LimitsLemmas`). So what a reader finds is in the grammar, and its fault is at the first bad token (`Sound`, then
+//! `SoundExpr`, `SoundStmts`, `Separators` and `SoundBlocks`); and what is in the grammar is found (`CompleteExpr`,
+//! `CompleteBlocks`). Limits as wide as the list are none (`WideLimits`), which gives the laws of the reader without limits
+//! (`FreeBlocks`, `Laws`). A block is within the limits just where its counts are (`CountsLemmas`, counted token by token in
+//! `TokenCounts`), a part of tokens within them is so too (`PartLemmas`), one token is the first past a limit (`FirstPast`),
+//! and behind each token of a block but its last a block is open (`LevelLemmas`). A list has one fault at most (`OneFault`),
+//! and the cut that counting tells, read without limits, decides which (`FaultIsDecided`). `MarkLemmas`: the marks of one
+//! byte are told apart by a match.
 //!
-//! Names: they keep their places while a list of them grows (`NamesLemmas`, `NameIndexLemmas`), and a statement goes on the list of those
-//! before it (`RawTrees`, `BodyLemmas`). What the grammar says of a block's tokens (`BoundForm`) makes the program of a
-//! block whose checks pass well formed and, where no limit is passed, one within the limits (`BoundPrograms`), so the
-//! fault is that of the first check (`ResolveLemmas`).
+//! Names: they keep their places while a list of them grows, and in an index of it (`NamesLemmas`, `NameIndexLemmas`), and
+//! a statement goes on the list of those before it (`RawTrees`, `BodyLemmas`). What the grammar says of a block's tokens
+//! (`BoundForm`) makes the program of a block whose checks pass well formed and, where no limit is passed, one within the
+//! limits (`BoundPrograms`), so the fault is that of the first check (`ResolveLemmas`).
 #![tactic(auto)]
 
 mod blocks;
