@@ -4,3 +4,4 @@ pub mod SegmentLemmas
 pub mod StepLemmas
 pub mod DecidingLemmas
 pub mod CountingLemmas
+pub mod FollowingLemmas

@@ -12,6 +12,7 @@ mod attempts;
 mod coordinator;
 mod counting;
 mod deciding;
+mod following;
 mod memory;
 mod segments;
 
