@@ -1,5 +1,5 @@
 -- A log stands for its program from one job to the next.
-use Rattle.std.proofs.Common.{◌≡◌, List, [], ◌∷◌, Some, None, false, refl, sym, ap, subst}
+use Rattle.std.proofs.Common.{◌≡◌, List, [], ◌∷◌, Some, None, false, ap, subst}
 use Rattle.std.specs.Prelude.{slice_get}
 use Rattle.txn_lang.specs.Program.{Program}
 use Rattle.flat_code.specs.Operation.{Flat}

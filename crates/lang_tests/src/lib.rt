@@ -1,9 +1,11 @@
-//! Tests of the language: values of expressions, tokens, blocks and how they group, runs of programs, and logs that go
-//! back to a read.
+//! Tests of the language: values of expressions, tokens, blocks and how they group, runs of programs, logs that go back
+//! to a read, and jobs in other threads.
 #![tactic(auto)]
 
 #[cfg(test)]
 mod blocks;
+#[cfg(test)]
+mod crossing;
 #[cfg(test)]
 mod execution;
 #[cfg(test)]
