@@ -3,8 +3,8 @@
 //!
 //! What a client does is `client_step` of `protocol`. Read `specs/Memory` first: when what is kept here stands for what
 //! the definitions remember, and that a step takes such a turn. The code goes by the rooms of the definitions:
-//! `attempts` (how an attempt begins, what a segment brings, when an execution is prepared), `following`, `deciding`,
-//! `counting` and `step`. The proofs follow it: `MemoryLemmas` shows what the current program does, and each file beside it the
+//! `attempts` (how an attempt begins), `segments` (what a segment brings, and when an execution is prepared),
+//! `following`, `deciding` and `counting`. The proofs follow it: `MemoryLemmas` shows what the current program does, and each file beside it the
 //! turns of one room.
 #![tactic(auto)]
 
