@@ -1,3 +1,4 @@
 mod Answered
 mod Ran
+mod CheckLemmas
 pub mod WordsLemmas

@@ -3,11 +3,11 @@ use Rattle.std.proofs.Common.{◌≡◌, ℕ, List, subst, Option, None, Some, a
 use Rattle.std.specs.Prelude.{IfSome}
 use Rattle.protocol.specs.Words.{Event}
 use Rattle.first_form.specs.declared.script.FirstScript.{FirstScript}
-use Rattle.script_cli.specs.TopCall.{IsReport, OfScript, IsQuietRun, IsDue, Bad_command, Read_failed, Too_long, Not_built, Reported, Generated, IsAnswered, Written, Cut, Out_of_memory}
+use Rattle.script_cli.specs.TopCall.{IsReport, OfScript, IsQuietRun, IsDue, Bad_command, Read_failed, Too_long, Not_built, Reported, Generated, Check_unread, Check_too_long, Check_faulty, Check_printed, IsAnswered, Written, Cut, Out_of_memory}
 use Rattle.first_form.proofs.OneScript.{one_script}
 use Rattle.script_cli.specs.declared.words.Command.TheVariants.{Run}
 use Rattle.script_cli.specs.Words.{command_of}
-use Rattle.script_cli.proofs.Answered.{not_run}
+use Rattle.script_cli.proofs.Answered.{not_run, check_is_no_run}
 
 -- what is so of every script is so of the source's, and one fact of it gives another
 module _ (left : Option (List ℕ)) (P : FirstScript → Type 0) where
@@ -40,6 +40,10 @@ due_run words left R status journal text (Read_failed run failed s j t) asked ze
 due_run words left R status journal text (Too_long run long s j t) asked zero = absurd (omega arith)
 due_run words left R status journal text (Not_built run refused s j t) asked zero = absurd (omega arith)
 due_run words left R status journal text (Reported run report s) asked zero = reported_run left journal text report
+due_run words left R status journal text (Check_unread check failed s j t) asked zero = absurd (omega arith)
+due_run words left R status journal text (Check_too_long check long s j t) asked zero = absurd (omega arith)
+due_run words left R status journal text (Check_faulty check line s j) asked zero = absurd (omega arith)
+due_run words left R status journal text (Check_printed check printed s j) asked zero = absurd (check_is_no_run words check asked)
 due_run words left R status journal text (Generated seed size gen s j t) asked zero = absurd (not_run seed size words gen asked)
 
 -- with status 0 the journal is that of a run of the source's script

@@ -10,11 +10,16 @@ use Rattle.first_form.specs.declared.script.FirstScript.{FirstScript}
 use Rattle.protocol_plans.specs.Scripted.{plan_of}
 use Rattle.first_form.specs.Script.{scripted, turns, world_of}
 use Rattle.first_form.specs.FirstForm.{IsFirstForm}
+use Rattle.txn_text.specs.declared.faults.FaultKind.{FaultKind}
+use Rattle.txn_text.specs.declared.faults.TextFault.TheVariants.{At}
+use Rattle.script.specs.Meaning.{Script}
+use Rattle.script.specs.Texts.{IsScriptOf, IsFaultOf}
 use Rattle.script.specs.Canonical.{canonical}
 use Rattle.lab.specs.Generated.{generated}
 use Rattle.script_cli.specs.declared.words.Command.{Command}
-use Rattle.script_cli.specs.declared.words.Command.TheVariants.{Run, Gen}
+use Rattle.script_cli.specs.declared.words.Command.TheVariants.{Run, Check, Gen}
 use Rattle.script_cli.specs.Words.{command_of}
+use Rattle.script_cli.specs.Check.{fault_line, IsPrinted, IsFaultLine}
 
 -- the greatest length of a script
 abbrev pub script_limit : ℕ
@@ -46,6 +51,11 @@ pub record IsFirstScript (bytes : List ℕ) (script : FirstScript) : Type 0 wher
   pub short : length bytes ≤ script_limit
   pub form : IsFirstForm bytes script
 
+-- the bytes are few enough, and say this script
+pub record IsScriptText (bytes : List ℕ) (script : Script) : Type 0 where
+  pub short : length bytes ≤ script_limit
+  pub says : IsScriptOf bytes script
+
 -- it is so of each script that the bytes say, where they are told
 abbrev pub OfScript : Option (List ℕ) → (FirstScript → Type 0) → Type 0
 OfScript left P = IfSome left (λ bytes. (script : FirstScript) → IsFirstScript bytes script → P script)
@@ -65,6 +75,16 @@ pub record IsReport (bytes : List ℕ) (journal : List Event) (text : List ℕ) 
   pub run : IsQuietRun script journal
   pub written : text ≡ report_text script journal
 
+-- the bytes are few enough, and a script, whose canonical text this is
+pub record IsCanonical (bytes text : List ℕ) : Type 0 where
+  pub short : length bytes ≤ script_limit
+  pub printed : IsPrinted bytes text
+
+-- the bytes are few enough, and no script, and this is the line of their fault
+pub record IsFaulty (bytes text : List ℕ) : Type 0 where
+  pub short : length bytes ≤ script_limit
+  pub line : IsFaultLine bytes text
+
 -- what is to be written for the words and for the bytes that the source had left, with the status that goes with
 -- it and the journal of the run that was made: the first of these that fits
 pub data IsDue (words : List (List ℕ)) (left : Option (List ℕ)) (ReadFailed : Type 0) (status : ℕ) (journal : List Event) (text : List ℕ) : Type 0 where
@@ -73,6 +93,10 @@ pub data IsDue (words : List (List ℕ)) (left : Option (List ℕ)) (ReadFailed 
   Too_long : command_of words ≡ Some Run → IfSome left IsTooLong → status ≡ 3 → journal ≡ [] → text ≡ too_long → IsDue words left ReadFailed status journal text
   Not_built : command_of words ≡ Some Run → IfSome left IsNotBuilt → status ≡ 3 → journal ≡ [] → text ≡ not_built → IsDue words left ReadFailed status journal text
   Reported : command_of words ≡ Some Run → IfSome left (λ bytes. IsReport bytes journal text) → status ≡ 0 → IsDue words left ReadFailed status journal text
+  Check_unread : command_of words ≡ Some Check → ReadFailed → status ≡ 4 → journal ≡ [] → text ≡ read_failed → IsDue words left ReadFailed status journal text
+  Check_too_long : command_of words ≡ Some Check → IfSome left IsTooLong → status ≡ 3 → journal ≡ [] → text ≡ too_long → IsDue words left ReadFailed status journal text
+  Check_faulty : command_of words ≡ Some Check → IfSome left (λ bytes. IsFaulty bytes text) → status ≡ 3 → journal ≡ [] → IsDue words left ReadFailed status journal text
+  Check_printed : command_of words ≡ Some Check → IfSome left (λ bytes. IsCanonical bytes text) → status ≡ 0 → journal ≡ [] → IsDue words left ReadFailed status journal text
   Generated : (seed size : ℕ) → command_of words ≡ Some (Gen seed size) → status ≡ 0 → journal ≡ [] → text ≡ canonical (generated seed size) → IsDue words left ReadFailed status journal text
 
 -- the call wrote what was due, or the sink failed within it, or memory ran out before anything was written
@@ -88,6 +112,14 @@ IsRefused old new bytes = (IsTooLong bytes × Takes old new too_long) ⊎ (IsNot
 -- the report of the bytes' script for this journal was written
 abbrev pub IsReported : Option (List ℕ) → Option (List ℕ) → List Event → List ℕ → Type 0
 IsReported old new journal bytes = (script : FirstScript) × IsFirstScript bytes script × Takes old new (report_text script journal)
+
+-- the bytes are a script, and its canonical text was written
+abbrev pub IsPrintedWhole : Option (List ℕ) → Option (List ℕ) → List ℕ → Type 0
+IsPrintedWhole old new bytes = (s : Script) × IsScriptOf bytes s × Takes old new (canonical s)
+
+-- the bytes are too many, or no script, and the line that says so was written
+abbrev pub IsFaultTold : Option (List ℕ) → Option (List ℕ) → List ℕ → Type 0
+IsFaultTold old new bytes = (IsTooLong bytes × Takes old new too_long) ⊎ ((line : ℕ) × (kind : FaultKind) × IsFaultOf bytes (At line kind) × Takes old new (fault_line line kind))
 
 -- the sink took a part of what was due
 abbrev pub IsCut : List (List ℕ) → Option (List ℕ) → Type 0 → Option (List ℕ) → Option (List ℕ) → List Event → Type 0

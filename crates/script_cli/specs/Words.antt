@@ -6,7 +6,7 @@ use Rattle.morty_base.specs.ScriptNames.{is_digit}
 use Rattle.txn_text.specs.Bytes.{number_of}
 use Rattle.lab.specs.declared.generated.TheConstants.{GREATEST_SEED, MOST_GENERATED}
 use Rattle.script_cli.specs.declared.words.Command.{Command}
-use Rattle.script_cli.specs.declared.words.Command.TheVariants.{Run, Gen}
+use Rattle.script_cli.specs.declared.words.Command.TheVariants.{Run, Check, Gen}
 
 -- digits, at least one
 abbrev pub is_decimal : List ℕ → Bool
@@ -27,10 +27,10 @@ abbrev pub seeded : Option ℕ → List ℕ → Option Command
 seeded None size = None
 seeded (Some seed) size = sized seed (number_said 1 MOST_GENERATED size)
 
--- behind `run` stands no word
-abbrev pub run_of : List (List ℕ) → Option Command
-run_of [] = Some Run
-run_of (word ∷ rest) = None
+-- behind `run` and `check` stands no word
+abbrev pub alone : Command → List (List ℕ) → Option Command
+alone command [] = Some command
+alone command (word ∷ rest) = None
 
 -- behind `gen` stand a seed and a size
 abbrev pub gen_of : List (List ℕ) → Option Command
@@ -41,10 +41,12 @@ gen_of rest = None
 abbrev pub command_of : List (List ℕ) → Option Command
 command_of [] = None
 command_of (word ∷ rest) =
-    if bytes_eq word (codes "run") then run_of rest
-    else (if bytes_eq word (codes "gen") then gen_of rest else None)
+    if bytes_eq word (codes "run") then alone Run rest
+    else (if bytes_eq word (codes "check") then alone Check rest
+    else (if bytes_eq word (codes "gen") then gen_of rest else None))
 
 -- a seed and a size are within their limits
 abbrev pub IsInRange : Command → Type 0
 IsInRange Run = ⊤
+IsInRange Check = ⊤
 IsInRange (Gen seed size) = (seed ≤ GREATEST_SEED) × (1 ≤ size) × (size ≤ MOST_GENERATED)

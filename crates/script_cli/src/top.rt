@@ -7,15 +7,18 @@ ghost use Rattle.world.specs.Machine.{machine_of};
 ghost use Rattle.law_outcomes.specs.Outcome.{IsCorrectThroughout};
 ghost use Rattle.protocol_plans.specs.Scripted.{plan_of};
 ghost use Rattle.first_form.specs.Script.{scripted, turns};
+ghost use Rattle.script.specs.Meaning.{Script};
 ghost use Rattle.script.specs.Canonical.{canonical};
 ghost use Rattle.lab.specs.Generated.{generated};
 ghost use Rattle.script_cli.specs.Words.{command_of, IsInRange};
 ghost use Rattle.script_cli.specs.TopCall.{bad_command_line, read_failed as read_failed_line, IsAnswered, IsReported, IsRefused, IsFirstScript, OfScript, IsCut, IsStatus};
+ghost use Rattle.script_cli.specs.TopCall.{IsPrintedWhole, IsFaultTold, IsScriptText};
 ghost use Rattle.morty_io.specs.Faults.{Rose};
 ghost use Rattle.morty_io.specs.Bytes.{Takes};
 ghost use Rattle.first_form.specs.declared.script.FirstScript.{FirstScript as FirstScriptValue};
-ghost use Rattle.script_cli.specs.Made.{IsReportOf, IsMadeOf, IsWritten, IsTextAnswered, IsGenerated};
+ghost use Rattle.script_cli.specs.Made.{IsReportOf, IsMadeOf, IsWritten, IsUnread, IsTextAnswered, IsChecked, IsGenerated};
 
+use crate::check::check_text;
 use crate::words::{Command, read_words};
 use first_form::{Event, FirstScript, Run, read_first_form, run_script};
 use lab::gen_script;
@@ -94,6 +97,18 @@ fn out_of_memory(alloc: Global) -> Exit
     }
 }
 
+/// Answers a source that was not read whole.
+fn answer_unread<K: Sink>(alloc: Global, why: ReadEnd, out: &mut K) -> Exit
+    ensures answered { IsUnread why (K.taken out.old) (K.taken out.new) (Rose (K.faults out.old) (K.faults out.new)) result.status result.journal.items }
+    ensures failed { result.status ≢ 0 }
+{
+    match why {
+        ReadEnd::ReadFault => write_line(alloc, out, 4, b"morty: read failed\n"),
+        ReadEnd::TooLong => write_line(alloc, out, 3, b"morty: script too long\n"),
+        ReadEnd::NoMemory => out_of_memory(alloc),
+    }
+}
+
 /// Answers a script's text.
 fn answer_text<K: Sink>(alloc: Global, text: &[u8], out: &mut K) -> Exit
     requires { length text.now ≤ SCRIPT_LIMIT }
@@ -114,9 +129,30 @@ fn answer_run<S: Source, K: Sink>(alloc: Global, src: &mut S, out: &mut K) -> Ex
 {
     match read_whole(alloc, src, SCRIPT_LIMIT) {
         Ok(text) => answer_text(alloc, text.as_slice(), out),
-        Err(ReadEnd::ReadFault) => write_line(alloc, out, 4, b"morty: read failed\n"),
-        Err(ReadEnd::TooLong) => write_line(alloc, out, 3, b"morty: script too long\n"),
-        Err(ReadEnd::NoMemory) => out_of_memory(alloc),
+        Err(why) => answer_unread(alloc, why, out),
+    }
+}
+
+/// Answers a text that is checked.
+fn answer_checked<K: Sink>(alloc: Global, text: &[u8], out: &mut K) -> Exit
+    requires { length text.now ≤ SCRIPT_LIMIT }
+    ensures { IsChecked text.now (K.taken out.old) (K.taken out.new) (Rose (K.faults out.old) (K.faults out.new)) result.status result.journal.items }
+{
+    match check_text(alloc, text) {
+        Ok(checked) => write_line(alloc, out, checked.status, checked.text.as_slice()),
+        Err(_) => out_of_memory(alloc),
+    }
+}
+
+/// Answers the source's bytes for the words that ask for a check.
+fn answer_check<S: Source, K: Sink>(alloc: Global, src: &mut S, out: &mut K) -> Exit
+    ensures answered { (words : Listed (Listed ℕ)) → command_of words ≡ Some Command.Check → IsAnswered words (S.left src.old) (Rose (S.faults src.old) (S.faults src.new))
+        (K.taken out.old) (K.taken out.new) (Rose (K.faults out.old) (K.faults out.new)) result.status result.journal.items }
+    ensures emptied { result.status ≡ 0 → IfSome (S.left src.old) (λ _. S.left src.new ≡ Some []) }
+{
+    match read_whole(alloc, src, SCRIPT_LIMIT) {
+        Ok(text) => answer_checked(alloc, text.as_slice(), out),
+        Err(why) => answer_unread(alloc, why, out),
     }
 }
 
@@ -146,19 +182,21 @@ fn answer<S: Source, K: Sink>(alloc: Global, words: &[List<u8>], src: &mut S, ou
     ensures answered { IsAnswered words.now (S.left src.old) (Rose (S.faults src.old) (S.faults src.new))
         (K.taken out.old) (K.taken out.new) (Rose (K.faults out.old) (K.faults out.new)) result.status result.journal.items }
     ensures emptied { command_of words.now ≡ Some Command.Run → result.status ≡ 0 → IfSome (S.left src.old) (λ _. S.left src.new ≡ Some []) }
-    ensures unread { command_of words.now ≢ Some Command.Run → src.new ≡ src.old }
+    ensures drained { command_of words.now ≡ Some Command.Check → result.status ≡ 0 → IfSome (S.left src.old) (λ _. S.left src.new ≡ Some []) }
+    ensures unread { command_of words.now ≢ Some Command.Run → command_of words.now ≢ Some Command.Check → src.new ≡ src.old }
 {
     match read_words(words) {
         None => write_line(alloc, out, 2, b"morty: bad command line\n"),
         Some(Command::Run) => answer_run(alloc, src, out),
+        Some(Command::Check) => answer_check(alloc, src, out),
         Some(Command::Gen { seed, size }) => generate(alloc, seed, size, out),
     }
 }
 
 /// The program: for the word `run` it reads a script from the source, runs it in this thread, and writes the report to the
-/// sink, or a line that says why there is none; for `gen SEED SIZE` it writes a generated script and reads nothing. The
-/// journal has the events of the run, if there was one. The commands `check`, `serial`, `trace` and `big`, and workers, are
-/// not built: their words are bad ones.
+/// sink, or a line that says why there is none; for `check` it reads a script and writes its canonical text, or the line of
+/// its fault; for `gen SEED SIZE` it writes a generated script and reads nothing. The journal has the events of the run, if
+/// there was one. The commands `serial`, `trace` and `big`, and workers, are not built: their words are bad ones.
 pub fn run_here<S: Source, K: Sink>(
     alloc: Global,
     words: &[List<u8>],
@@ -182,16 +220,23 @@ pub fn run_here<S: Source, K: Sink>(
     // sent carries the base of the world at its version.
     ensures correct { OfScript (S.left src.old) (λ script. IsCorrectThroughout (scripted script) result.journal.items) }
 
+    // 0 for `check`: the source was read to its end, and the canonical text of its script was written.
+    ensures printed { command_of words.now ≡ Some Command.Check → result.status ≡ 0 → IfSome (S.left src.old) (IsPrintedWhole (K.taken out.old) (K.taken out.new)) }
+    ensures drained { command_of words.now ≡ Some Command.Check → result.status ≡ 0 → IfSome (S.left src.old) (λ _. S.left src.new ≡ Some []) }
+
     // 0 for `gen`: the canonical text of the generated script was written, and nothing was read.
     ensures generated { (seed size : ℕ) → command_of words.now ≡ Some (Command.Gen seed size) → result.status ≡ 0 → Takes (K.taken out.old) (K.taken out.new) (canonical (generated seed size)) }
-    ensures unread { command_of words.now ≢ Some Command.Run → src.new ≡ src.old }
+    ensures unread { command_of words.now ≢ Some Command.Run → command_of words.now ≢ Some Command.Check → src.new ≡ src.old }
 
     // 2: exactly where the words are no command, unless the sink fails.
     ensures bad_words { result.status ≡ 2 → (command_of words.now ≡ None) × Takes (K.taken out.old) (K.taken out.new) bad_command_line }
     ensures good_words { command_of words.now ≡ None → (result.status ≡ 2) ⊎ (result.status ≡ 5) }
 
-    // 3: the bytes are too many, or no script of the first form.
-    ensures refused { result.status ≡ 3 → (command_of words.now ≡ Some Command.Run) × IfSome (S.left src.old) (IsRefused (K.taken out.old) (K.taken out.new)) }
+    // 3: the bytes are too many, or for `run` no script of the first form, or for `check` no script: then the line of their
+    // one fault was written.
+    ensures refused { result.status ≡ 3 →
+        ((command_of words.now ≡ Some Command.Run) × IfSome (S.left src.old) (IsRefused (K.taken out.old) (K.taken out.new)))
+        ⊎ ((command_of words.now ≡ Some Command.Check) × IfSome (S.left src.old) (IsFaultTold (K.taken out.old) (K.taken out.new))) }
 
     // 4 and 5: only where a fault of the source or of the sink was counted.
     ensures read_failed { result.status ≡ 4 → Rose (S.faults src.old) (S.faults src.new) × Takes (K.taken out.old) (K.taken out.new) read_failed_line }
@@ -201,9 +246,11 @@ pub fn run_here<S: Source, K: Sink>(
     // 9: want of memory, before anything is written.
     ensures no_memory { result.status ≡ 9 → K.taken out.new ≡ K.taken out.old }
 
-    // A script of the first form is run, and a script is generated, where nothing fails, and there are no other statuses.
+    // A script of the first form is run, a script is printed, and one is generated, where nothing fails, and there are no other statuses.
     ensures complete { command_of words.now ≡ Some Command.Run → ¬ Rose (S.faults src.old) (S.faults src.new) → ¬ Rose (K.faults out.old) (K.faults out.new) →
         IfSome (S.left src.old) (λ bytes. (script : FirstScriptValue) → IsFirstScript bytes script → (result.status ≡ 0) ⊎ (result.status ≡ 9)) }
+    ensures prints { command_of words.now ≡ Some Command.Check → ¬ Rose (S.faults src.old) (S.faults src.new) → ¬ Rose (K.faults out.old) (K.faults out.new) →
+        IfSome (S.left src.old) (λ bytes. (script : Script) → IsScriptText bytes script → (result.status ≡ 0) ⊎ (result.status ≡ 9)) }
     ensures generates { (seed size : ℕ) → command_of words.now ≡ Some (Command.Gen seed size) → ¬ Rose (K.faults out.old) (K.faults out.new) → (result.status ≡ 0) ⊎ (result.status ≡ 9) }
     ensures known { IsStatus result.status }
     ensures unrun { result.status ≢ 0 → result.status ≢ 5 → result.journal.items ≡ [] }

@@ -1,7 +1,7 @@
 ghost use Rattle.std.specs.Prelude.{◌≡◌, ◌≤◌, IfSome};
 ghost use Rattle.std.specs.List.{list_all};
 ghost use Rattle.morty_base.specs.ScriptNames.{is_digit};
-ghost use Rattle.script_cli.specs.Words.{is_decimal, number_said, run_of, gen_of, command_of, IsInRange};
+ghost use Rattle.script_cli.specs.Words.{is_decimal, number_said, alone, gen_of, command_of, IsInRange};
 
 use lab::{GREATEST_SEED, MOST_GENERATED};
 use morty_base::{List, is_digit};
@@ -12,6 +12,8 @@ use txn_text::number;
 pub enum Command {
     /// The report of the run of the script that is read.
     Run,
+    /// The canonical text of the script that is read, or its fault.
+    Check,
     /// A generated script.
     Gen { seed: u64, size: u32 },
 }
@@ -50,12 +52,13 @@ fn number_said(least: u64, most: u64, word: &[u8]) -> Option<u64>
     }
 }
 
-fn run_of(rest: &[List<u8>]) -> Option<Command>
-    ensures { result ≡ run_of rest.now }
+/// The command, where no word stands behind it.
+fn alone(command: Command, rest: &[List<u8>]) -> Option<Command>
+    ensures { result ≡ alone command rest.now }
 {
     match rest.split_first() {
         Some(_) => None,
-        None => Some(Command::Run),
+        None => Some(command),
     }
 }
 
@@ -80,7 +83,8 @@ pub fn read_words(words: &[List<u8>]) -> Option<Command>
 {
     let (word, rest) = words.split_first()?;
     match word.as_slice() {
-        b"run" => run_of(rest),
+        b"run" => alone(Command::Run, rest),
+        b"check" => alone(Command::Check, rest),
         b"gen" => gen_of(rest),
         _ => None,
     }

@@ -16,3 +16,8 @@ pub returns-in-Some-Gen-clause-answered : goal.returns-in-Some-Gen-clause-answer
 returns-in-Some-Gen-clause-answered g c =
     let command = rw c.in-Some-Gen.field-0-is at c.in-Some-Gen.ensures.command in
     generated_answers c.args.words.now _ _ _ _ _ c.in-Some-Gen.seed c.in-Some-Gen.size _ _ (sym command) c.generate.ensures
+
+pub returns-in-Some-Check-clause-answered : goal.returns-in-Some-Check-clause-answered
+returns-in-Some-Check-clause-answered g c =
+    let command = rw c.in-Some-Check.field-0-is at c.in-Some-Check.ensures.command in
+    c.answer_check.ensures.answered c.args.words.now (sym command)

@@ -1,9 +1,9 @@
-use Rattle.std.proofs.Common.{◌≤◌, ℕ, List, length, refl, ap, subst, arith}
+use Rattle.std.proofs.Common.{◌≤◌, ℕ, List, length, Err, refl, ap, subst, arith}
 use Rattle.morty_io.specs.Faults.{Rose}
-use Rattle.script_cli.specs.TopCall.{script_limit, read_failed, too_long, Read_failed, Too_long, Out_of_memory}
+use Rattle.script_cli.specs.TopCall.{script_limit, Read_failed, Too_long}
 use Rattle.script_cli.specs.declared.words.Command.TheVariants.{Run}
 use Rattle.script_cli.specs.Made.{IsTextAnswered}
-use Rattle.script_cli.proofs.Answered.{written_answers, text_answers}
+use Rattle.script_cli.proofs.Answered.{unread_answers, text_answers}
 use Rattle.script_cli.proofs.top.answer_run.Goals as goal
 
 pub returns-in-Ok-clause-answered : goal.returns-in-Ok-clause-answered
@@ -14,19 +14,9 @@ returns-in-Ok-clause-answered g c = λ words run.
     let short : length c.in-Ok.text.items ≤ script_limit = omega (arith, c.in-Ok.ensures.within, c.as_slice.ensures.len, ap length c.as_slice.ensures.value) in
     text_answers words (g.S.Source.left c.args.src.now) _ _ _ _ c.in-Ok.text.items _ _ run c.in-Ok.ensures.whole short (subst P c.as_slice.ensures.value c.answer_text.ensures)
 
-pub returns-in-Err-ReadFault-clause-answered : goal.returns-in-Err-ReadFault-clause-answered
-returns-in-Err-ReadFault-clause-answered g c = λ words run.
-    let fault = rw c.in-Err-ReadFault.field-0-is at c.in-Err-ReadFault.ensures.fault in
-    written_answers words _ _ _ _ _ read_failed _ 4 _
-    (Read_failed run (fault refl) refl c.write_line.ensures.journal refl)
-    c.write_line.ensures.written
-
-pub returns-in-Err-TooLong-clause-answered : goal.returns-in-Err-TooLong-clause-answered
-returns-in-Err-TooLong-clause-answered g c = λ words run.
-    let longer = rw c.in-Err-TooLong.field-0-is at c.in-Err-TooLong.ensures.was_longer in
-    written_answers words _ _ _ _ _ too_long _ 3 _
-    (Too_long run (longer refl) refl c.write_line-in-Err-TooLong.ensures.journal refl)
-    c.write_line-in-Err-TooLong.ensures.written
-
-pub returns-in-Err-NoMemory-clause-answered : goal.returns-in-Err-NoMemory-clause-answered
-returns-in-Err-NoMemory-clause-answered g c = λ words run. Out_of_memory Run run refl c.out_of_memory.ensures.status c.out_of_memory.ensures.journal
+pub returns-in-Err-clause-answered : goal.returns-in-Err-clause-answered
+returns-in-Err-clause-answered g c = λ words run.
+    unread_answers words (g.S.Source.left c.args.src.now) _ _ _ _ Run c.in-Err.why _ _ run
+    (λ failed empty. Read_failed run failed refl empty refl)
+    (λ long empty. Too_long run long refl empty refl)
+    (λ e. c.in-Err.ensures.fault (ap Err e)) (λ e. c.in-Err.ensures.was_longer (ap Err e)) c.answer_unread.ensures.answered

@@ -11,6 +11,7 @@ use Rattle.protocol_plans.specs.Scripted.{plan_of}
 use Rattle.first_form.specs.Script.{scripted, turns}
 use Rattle.script_cli.specs.TopCall.{IsQuietRun}
 use Rattle.script_cli.proofs.Answered.{completes_told, cut_of, generates, generated_written}
+use Rattle.script_cli.proofs.CheckLemmas.{printed_whole, prints_told, refused_told}
 use Rattle.script_cli.proofs.Ran.{of_all, of_script, quiet_run}
 use Rattle.script_cli.proofs.top.run_here.Goals as goal
 
@@ -51,3 +52,12 @@ returns-clause-generated g c = generated_written c.args.words.now (g.S.Source.le
 
 pub returns-clause-cut : goal.returns-clause-cut
 returns-clause-cut g c = cut_of c.args.words.now (g.S.Source.left c.args.src.now) _ _ _ _ _ _ c.answer.ensures.answered
+
+pub returns-clause-printed : goal.returns-clause-printed
+returns-clause-printed g c = printed_whole c.args.words.now (g.S.Source.left c.args.src.now) _ _ _ _ _ _ c.answer.ensures.answered
+
+pub returns-clause-refused : goal.returns-clause-refused
+returns-clause-refused g c = refused_told c.args.words.now (g.S.Source.left c.args.src.now) _ _ _ _ _ _ c.answer.ensures.answered
+
+pub returns-clause-prints : goal.returns-clause-prints
+returns-clause-prints g c = prints_told c.args.words.now (g.S.Source.left c.args.src.now) _ _ _ _ _ _ c.answer.ensures.answered
