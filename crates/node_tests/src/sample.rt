@@ -19,7 +19,11 @@ pub(crate) const CLIENT3: NodeId = NodeId::Client(3);
 
 pub(crate) const CLIENT4: NodeId = NodeId::Client(4);
 
+pub(crate) const REPLICA1: NodeId = NodeId::Replica(1);
+
 pub(crate) const REPLICA2: NodeId = NodeId::Replica(2);
+
+pub(crate) const REPLICA3: NodeId = NodeId::Replica(3);
 
 pub(crate) const WARDEN1: NodeId = NodeId::Warden(1);
 
