@@ -4,3 +4,9 @@ pub mod Rounds
 pub mod Fair
 pub mod Laws
 pub mod Mail
+pub mod Replay
+pub mod Draws
+pub mod Minds
+pub mod SeededRule
+pub mod LinkRules
+pub mod Ruled

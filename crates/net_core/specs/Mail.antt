@@ -1,6 +1,5 @@
 -- The mail: envelopes in order of sending, each kept as its frame.
-use Rattle.std.specs.Prelude.{◌≡◌, ℕ, Bool, true, false, List, [], ◌∷◌, Option, option_map, slice_get, map, Ok, Err}
-use Rattle.std.specs.List.{All}
+use Rattle.std.specs.Prelude.{◌≡◌, ℕ, Bool, true, false, List, [], Ok, Err}
 use Rattle.morty_base.specs.Names.{no_version}
 use Rattle.morty_base.specs.declared.names.NodeId.TheVariants.{Client}
 use Rattle.msg.specs.declared.Body.TheVariants.{Fence}

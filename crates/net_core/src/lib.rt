@@ -7,15 +7,26 @@
 //! just where each of them rests (`QuietOrDue`). And each word of these files asks its machine of its own nodes at the
 //! moments of the history alone, so that two machines which answer those alike say the same (`AnswersDecide`).
 //!
-//! Apart from these stands the mail: what is kept of an envelope opens to it (`specs/Mail`, `proofs/Opening`); and what a
-//! script may plan for a node's link (`src/plan`).
+//! A type is such a machine if it is a `Machine`: it stands for an origin and the events that it took, and its calls answer
+//! what the machine of that origin says after them (`specs/Replay`).
+//!
+//! What picks for a node is a `Link`. It may tell its mind: what it is begun with (`src/plan`, `specs/Minds`), its kind's
+//! rule (`LinkRules`, and `SeededRule` over `Draws`), and what it is for the picks of a node to follow that rule (`Ruled`).
+//!
+//! Apart from these stands the mail: what is kept of an envelope opens to it (`specs/Mail`, `proofs/Opening`).
 #![tactic(auto)]
 
 ghost use Rattle.net_core.specs.Laws.{QuietOrDue, AnswersDecide, FairRunsAgree};
 
+mod draws;
+mod link;
+mod machine;
 mod mail;
 mod plan;
 
+pub use draws::draw;
+pub use link::{Link, LinkMind, Menu};
+pub use machine::{Machine, RanStep, StepOut};
 pub use mail::Mail;
 pub use msg::{Event, Pick};
 pub use plan::{LinkKind, LinkPlan, PlanItem, PlanWhat};

@@ -1,8 +1,6 @@
 -- What is kept is a frame, and opens to what was sent.
 use Rattle.std.proofs.Common.{List, ◌∷◌, [], ◌++◌, sym, ap, subst, ◌∙◌}
 use Rattle.std.proofs.lemmas.List.Elements.{All-push}
-use Rattle.std.specs.List.{All}
-use Rattle.wire.specs.Wire.{frame}
 use Rattle.net_core.specs.Mail.{IsFrame}
 use Rattle.net_core.proofs.Opening.{frame_is_frame, opened_push}
 use Rattle.net_core.proofs.mail.Mail.send.Goals as goal
