@@ -5,3 +5,4 @@ pub mod StepLemmas
 pub mod DecidingLemmas
 pub mod CountingLemmas
 pub mod FollowingLemmas
+pub mod NextLabelLemmas

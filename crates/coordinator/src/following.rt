@@ -5,8 +5,8 @@ ghost use Rattle.std.specs.Ordering.{int_eq};
 ghost use Rattle.protocol.specs.Words.{Wid as WidValue, Choice as ChoiceValue, Content as ContentValue};
 ghost use Rattle.protocol.specs.Client.State.{ClientState, CountedVote, idle};
 ghost use Rattle.protocol.specs.Client.State.Phase.{Running, Prepared};
-ghost use Rattle.protocol.specs.Client.Following.{effect, is_named, answers_question, follow_running, note_at, note_running, prepare_if_idle, rewind, answer_at, answered, surely, with_answer};
-ghost use Rattle.protocol.specs.Client.Following.Effect.{Follow as FollowEffect};
+ghost use Rattle.protocol.specs.Client.Following.{effect, is_named, answers_question, follow_prepared, follow_running, note_at, note_prepared, note_running, prepare_if_idle, prepared_at, rewind, answer_at, answered, surely, with_answer};
+ghost use Rattle.protocol.specs.Client.Following.Effect.{Sure as SureEffect, Follow as FollowEffect};
 ghost use Rattle.exec_log.specs.Log.{asked_by};
 ghost use Rattle.coordinator.specs.Memory.{Given, StandsFor, Takes};
 ghost use Rattle.coordinator.specs.Following.{effect_of};
@@ -195,5 +195,66 @@ impl Memory {
         };
         let out = self.note_at(alloc, i, new, gone)?;
         Ok(out)
+    }
+
+    // A read of the prepared execution keeps a next label beside the one in use.
+    fn put_next(&mut self, i: usize, next: Held) -> Result<(), NoMemory>
+        requires { i < length self.old.execution.log.reads }
+        ensures { OnOk result ((g : Given) (c : ClientState) (content : ContentValue) (votes : List CountedVote) (proposal : Option ChoiceValue) (accepts : List ℕ) → StandsFor g c self.old →
+            c.phase ≡ Prepared content votes proposal accepts → StandsFor g (follow_prepared c i (answer_at c i) next FollowEffect) self.new) }
+    {
+        self.execution.set_next(i, next)?;
+        Ok(())
+    }
+
+    // Its next label is sure, where one stands.
+    fn put_sure(&mut self, i: usize, new: Held) -> Result<(), NoMemory>
+        requires { i < length self.old.execution.log.reads }
+        ensures { OnOk result ((g : Given) (c : ClientState) (content : ContentValue) (votes : List CountedVote) (proposal : Option ChoiceValue) (accepts : List ℕ) → StandsFor g c self.old →
+            c.phase ≡ Prepared content votes proposal accepts → StandsFor g (follow_prepared c i (answer_at c i) new SureEffect) self.new) }
+    {
+        let Some(next) = self.execution.next(i) else {
+            return Ok(());
+        };
+        self.put_next(i, surely(next))?;
+        Ok(())
+    }
+
+    // A Note about a read of the prepared execution.
+    fn prepared_at(&mut self, i: usize, new: Held, gone: Option<Wid>) -> Result<(), NoMemory>
+        requires { i < length self.old.execution.log.reads }
+        ensures { OnOk result ((g : Given) (c : ClientState) (content : ContentValue) (votes : List CountedVote) (proposal : Option ChoiceValue) (accepts : List ℕ) → StandsFor g c self.old →
+            c.phase ≡ Prepared content votes proposal accepts → StandsFor g (prepared_at c new gone (Some i)) self.new) }
+    {
+        let old = self.execution.next_label(i);
+        match effect_on(old, new, gone) {
+            Effect::Nothing => Ok(()),
+            Effect::Sure => {
+                self.put_sure(i, new)?;
+                Ok(())
+            }
+            Effect::Follow => {
+                self.put_next(i, new)?;
+                Ok(())
+            }
+        }
+    }
+
+    /// Takes a Note while an execution is prepared. It sends nothing.
+    pub(crate) fn note_prepared(
+        &mut self,
+        alloc: Global,
+        key: Key,
+        new: Held,
+        gone: Option<Wid>,
+    ) -> Result<List<Body>, NoMemory>
+        ensures { IfOk result (λ out. (g : Given) (c : ClientState) (content : ContentValue) (votes : List CountedVote) (proposal : Option ChoiceValue) (accepts : List ℕ) → StandsFor g c self.old →
+            c.phase ≡ Prepared content votes proposal accepts → Takes g (idle (note_prepared g.rules c key new gone)) self.new out) }
+    {
+        let Some(i) = self.execution.place(key) else {
+            return Ok(List::new(alloc));
+        };
+        self.prepared_at(i, new, gone)?;
+        Ok(List::new(alloc))
     }
 }

@@ -1,11 +1,11 @@
 -- The answers go with the reads: by place, at the end, cut, and relabelled.
 use Rattle.std.proofs.Common.{◌≡◌, ℕ, zero, suc, ◌<◌, Bool, true, false, cond, List, [], ◌∷◌, ◌++◌, length, take, get_or, set, Option, Some, None, refl, ap, sym, ◌∙◌, arith, ℤ, ◌+◌}
-use Rattle.std.specs.Prelude.{◌&&◌, slice_get, slice_set, option_map, unwrap_or, IsSome, IfSome}
+use Rattle.std.specs.Prelude.{◌&&◌, slice_get, slice_set, option_map, IsSome, IfSome}
 use Rattle.std.specs.List.{list_all, list_any}
 use Rattle.protocol.specs.Words.{Wid, Key, same_key}
 use Rattle.protocol.specs.declared.Held.{Held}
 use Rattle.protocol.specs.Client.State.{Answer, values}
-use Rattle.protocol.specs.Client.Following.{place_of, no_answer, next_label}
+use Rattle.protocol.specs.Client.Following.{place_of, no_answer}
 use Rattle.protocol.specs.Client.Deciding.{is_change}
 use Rattle.exec_log.specs.declared.read.LogRead.{LogRead}
 use Rattle.exec_log.specs.Log.{answers_in, asked_by, labelled_read, labelled, answered_at}
@@ -117,12 +117,8 @@ none_left [] e = refl
 none_left (x ∷ xs) e = absurd (omega (arith, e))
 
 -- the next label at the place of a read
-pub next_label_there : (e : Execution) (i : ℕ) (o : Option Held) → i < length e.log.reads → next_at e.nexts i ≡ o →
-    next_label (get_or (answers_of e) i no_answer) ≡ unwrap_or o (get_or (answers_of e) i no_answer).label
-next_label_there e i o h is =
-    let r = read_there e.log.reads i h in
-    let there = answer_there e.log.reads e.nexts i r.0 r.1 in
-    rw there (ap (λ n. unwrap_or n (held_of r.0)) is)
+pub next_there : (e : Execution) (i : ℕ) → i < length e.log.reads → (get_or (answers_of e) i no_answer).next ≡ next_at e.nexts i
+next_there e i h = let r = read_there e.log.reads i h in ap (λ (a : Answer). a.next) (answer_there e.log.reads e.nexts i r.0 r.1)
 
 -- the question is answered, with the label's value as a call was passed it
 pub asked_with : (e : Execution) (reads : List LogRead) (label : Held) (value : ℤ) → value ≡ label.value → IsSome (asked_by e.log.next) →

@@ -13,7 +13,7 @@ use Rattle.execution.specs.Moving.{first_other, labelled_by, moved_read, moved_b
 use Rattle.protocol.specs.Client.Following.{no_answer, next_label}
 use Rattle.execution.specs.Execution.{Loaded, StandsFor, answers_of}
 use Rattle.execution.specs.declared.execution.Execution.{Execution}
-use Rattle.execution.proofs.AnswersLemmas.{next_label_there}
+use Rattle.execution.proofs.AnswersLemmas.{next_there}
 use Rattle.execution.proofs.ExecutionLemmas.{labelled_more}
 
 pub length_moved : (n : ℕ) (reads : List LogRead) (nexts : List (Option Held)) → length (moved_before n reads nexts) ≡ length reads
@@ -167,7 +167,7 @@ module _ (e m : Execution) (i : ℕ) (is : m ≡ record e { log = record e.log {
       take i (answers_with m.log.reads []) ++ record { label = h; next = None } ∷ [] ≡ cut (answers_of e)
   cut_moved h within first label =
       let k = next_of_other e.log.reads e.nexts i first in
-      let same : h ≡ k.0 = label ∙ next_label_there e i (Some k.0) within k.1 in
+      let same : h ≡ k.0 = label ∙ ap (λ o. unwrap_or o (get_or (answers_of e) i no_answer).label) (next_there e i within ∙ k.1) in
       ap (λ rs. take i (answers_with rs []) ++ record { label = h; next = None } ∷ []) reads_are
       ∙ ap (λ g. take i (answers_with (moved_before i e.log.reads e.nexts) []) ++ record { label = g; next = None } ∷ []) same
       ∙ moved_cut e.log.reads e.nexts i k.0 first k.1

@@ -92,12 +92,20 @@ impl Execution {
         held_of(self.log.read(i))
     }
 
+    /// The label that the read at a place takes in the next execution, where it is another one.
+    pub fn next(&self, i: usize) -> Option<Held>
+        requires { i < length self.now.log.reads }
+        ensures { result ≡ (get_or (answers_of self.now) i no_answer).next }
+    {
+        next_at(self.nexts.as_slice(), i)
+    }
+
     /// The label with which Notes about the read at a place are compared while the execution is prepared.
     pub fn next_label(&self, i: usize) -> Held
         requires { i < length self.now.log.reads }
         ensures { result ≡ next_label (get_or (answers_of self.now) i no_answer) }
     {
-        match next_at(self.nexts.as_slice(), i) {
+        match self.next(i) {
             Some(next) => next,
             None => self.label(i),
         }

@@ -1,15 +1,14 @@
--- The answer at a place has the next label there.
-use Rattle.std.proofs.Common.{ap, sym, ◌∙◌, Some, None}
-use Rattle.execution.specs.Answers.{next_at}
-use Rattle.execution.proofs.AnswersLemmas.{next_label_there}
+-- It is the next label, or else the one in use.
+use Rattle.std.proofs.Common.{ap, sym, ◌∙◌}
+use Rattle.std.specs.Prelude.{get_or, unwrap_or}
+use Rattle.protocol.specs.Client.Following.{no_answer}
+use Rattle.execution.specs.Execution.{answers_of}
 use Rattle.execution.proofs.execution.Execution.next_label.Goals as goal
 
 pub returns-in-Some : goal.returns-in-Some
 returns-in-Some c =
-    sym (next_label_there c.args.self.now c.args.i (Some c.in-Some.next) c.requires
-    (ap (λ l. next_at l c.args.i) (sym c.as_slice.ensures) ∙ sym c.next_at.ensures ∙ c.in-Some.is))
+    ap (λ o. unwrap_or o (get_or (answers_of c.args.self.now) c.args.i no_answer).label) (sym c.in-Some.is ∙ c.next.ensures)
 
 pub returns-in-None : goal.returns-in-None
 returns-in-None c =
-    c.label.ensures
-    ∙ sym (next_label_there c.args.self.now c.args.i None c.requires (ap (λ l. next_at l c.args.i) (sym c.as_slice.ensures) ∙ sym c.next_at.ensures ∙ c.in-None.is))
+    c.label.ensures ∙ ap (λ o. unwrap_or o (get_or (answers_of c.args.self.now) c.args.i no_answer).label) (sym c.in-None.is ∙ c.next.ensures)
