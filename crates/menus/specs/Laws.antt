@@ -1,0 +1,32 @@
+-- How what is shown to a link changes.
+use Rattle.std.specs.Prelude.{◌≡◌, ℕ, true, false, not, List, [], ◌∷◌, ◌++◌, length, Some}
+use Rattle.std.specs.List.{slice_get}
+use Rattle.protocol.specs.Words.{NodeId, Envelope, same_node}
+use Rattle.protocol.specs.World.Events.{marked}
+use Rattle.menus.specs.Shown.{has_number}
+use Rattle.menus.specs.Inbox.{Arrived, AreBelow, IsInboxOf, without}
+
+-- the laws of the inbox of a node, where this was sent and these places of it were delivered
+pub record Follows (n : NodeId) (mail : List Envelope) (delivered : List ℕ) : Type 0 where
+  -- nothing was sent
+  pub none : mail ≡ [] → delivered ≡ [] → IsInboxOf n mail delivered (record { fresh = []; delivered = [] })
+  -- the next envelope has a number above the fresh ones
+  pub next : (b : Arrived) → IsInboxOf n mail delivered b → AreBelow (length mail) b.fresh
+  -- an envelope to the node is sent
+  pub sent : (b : Arrived) (m : Envelope) → IsInboxOf n mail delivered b → AreBelow (length mail) delivered → same_node n m.to ≡ true →
+      IsInboxOf n (mail ++ m ∷ []) delivered (record b { fresh = b.fresh ++ length mail ∷ [] })
+  -- one to another node is
+  pub sent_to_other : (b : Arrived) (m : Envelope) → IsInboxOf n mail delivered b → AreBelow (length mail) delivered → same_node n m.to ≡ false →
+      IsInboxOf n (mail ++ m ∷ []) delivered b
+  -- an envelope to the node is fresh just where it was not delivered
+  pub known : (b : Arrived) (i : ℕ) (m : Envelope) → IsInboxOf n mail delivered b → slice_get mail i ≡ Some m → same_node n m.to ≡ true →
+      has_number i b.delivered ≡ not (has_number i b.fresh)
+  -- it is delivered
+  pub taken : (b : Arrived) (i : ℕ) (m : Envelope) → IsInboxOf n mail delivered b → slice_get mail i ≡ Some m → same_node n m.to ≡ true →
+      IsInboxOf n mail (marked i delivered) (record { fresh = without i b.fresh; delivered = marked i b.delivered })
+  -- one to another node is
+  pub taken_by_other : (b : Arrived) (i : ℕ) (m : Envelope) → IsInboxOf n mail delivered b → slice_get mail i ≡ Some m → same_node n m.to ≡ false →
+      IsInboxOf n mail (marked i delivered) b
+
+abbrev pub InboxesFollow : Type 0
+InboxesFollow = (n : NodeId) (mail : List Envelope) (delivered : List ℕ) → Follows n mail delivered
