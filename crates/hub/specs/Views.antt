@@ -1,0 +1,31 @@
+-- What callers see of a hub.
+use Rattle.std.specs.Prelude.{◌≡◌, ℕ, Bool, false, cond, List, Option, Some, None, reverse}
+use Rattle.std.specs.List.{slice_get}
+use Rattle.morty_base.specs.declared.names.NodeId.{NodeId}
+use Rattle.morty_base.specs.declared.names.Ended.{Ended}
+use Rattle.msg.specs.declared.Event.{Event}
+use Rattle.net_core.specs.Machine.{History, Machine}
+use Rattle.hub.specs.Starts.{Start}
+
+-- the number of nodes; the journal in order; the job that each slot was handed last, since the last recall and the last
+-- segment of it that was used; how the run ended; whether nobody is to go on; and whether memory ran out in the middle of
+-- a call, so that the machine stands for nothing
+pub record HubView (J : Type 0) : Type 0 where
+  pub nodes : ℕ
+  pub journal : List Event
+  pub handed : List (Option J)
+  pub ended : Option Ended
+  pub spoiled : Bool
+  pub broken : Bool
+
+-- the events so far, the newest first
+abbrev pub history : {J : Type 0} → HubView J → History
+history v = reverse v.journal
+
+-- how the run ended, as far as the hub says it
+abbrev pub told_end : {J : Type 0} → HubView J → Option Ended
+told_end v = cond v.spoiled None v.ended
+
+-- of a run that was not broken, with its start and the node of a slot
+abbrev pub AtNode : {O J : Type 0} → Option (Start O) → (O → Machine) → HubView J → ℕ → (Start O → NodeId → Type 0) → Type 0
+AtNode {O} start rules v slot P = v.broken ≡ false → (s : Start O) (n : NodeId) → start ≡ Some s → slice_get (rules s.origin).nodes slot ≡ Some n → P s n
