@@ -43,7 +43,8 @@ module _ (p : Plan) (limits : PlanIsWithinLimits p) (w : World) (q : Reach p w) 
   pub content_short : (b : Body) (x : Exec) (k : Content) → HasContent b x k → WasSent w b → IsShort k
   content_short b x k h t = prepared_short x k ((contents_reach p limits.some_replica w q).from b x k h t)
 
-pub puts_short : (p : Plan) → PlanIsWithinLimits p → (w : World) → Reach p w → (x : Exec) (writes : List Write) → WasSent w (Puts x writes) → length writes ≤ most_short
+pub puts_short : (p : Plan) → PlanIsWithinLimits p → (w : World) → Reach p w → (x : Exec) (writes : List Write) → WasSent w (Puts x writes) →
+    length writes ≤ most_short
 puts_short p limits _ Begins x writes t = absurd t.there
 puts_short p limits _ (Next w w' q st) x writes t = go (puts_short p limits w q x writes) (origin p w w' q st _ t)
   where

@@ -30,9 +30,12 @@ use Rattle.law_frames.proofs.SentBefore.{kept_fit, drop_fit, took_before, took_p
 
 -- a node of the script is numbered within the limits
 numbered : (p : Plan) → PlanIsWithinLimits p → (node : NodeId) → exists p node ≡ true → IsNumbered node
-numbered p limits (Client n) e = let k = wardens_range n _ e in let a = k.0 in let b = k.1 in let l = limits.clients in (omega (arith, a), omega (arith, b, l))
-numbered p limits (Replica n) e = let k = wardens_range n _ e in let a = k.0 in let b = k.1 in let l = limits.replicas in (omega (arith, a), omega (arith, b, l))
-numbered p limits (Warden n) e = let k = wardens_range n _ e in let a = k.0 in let b = k.1 in let l = limits.wardens in (omega (arith, a), omega (arith, b, l))
+numbered p limits (Client n) e = let k = wardens_range n _ e in let a = k.0 in let b = k.1 in let l = limits.clients in
+    (omega (arith, a), omega (arith, b, l))
+numbered p limits (Replica n) e = let k = wardens_range n _ e in let a = k.0 in let b = k.1 in let l = limits.replicas in
+    (omega (arith, a), omega (arith, b, l))
+numbered p limits (Warden n) e = let k = wardens_range n _ e in let a = k.0 in let b = k.1 in let l = limits.wardens in
+    (omega (arith, a), omega (arith, b, l))
 
 some_short : (o : Option Content) → ((k : Content) → o ≡ Some k → IsShort k) → IfSome o IsShort
 some_short None f = tt
@@ -42,8 +45,10 @@ abbrev AllMaySend : World → Type 0
 AllMaySend w = (m : Envelope) → IsIn m w.mail → MaySend m
 
 -- after a step from a mail that has room
-module _ (p : Plan) (limits : PlanIsWithinLimits p) (w w' : World) (q : Reach p w) (q' : Reach p w') (step : Happens p w w') (room : length w.mail < mail_limit) (before : AllMaySend w) where
-  fenced_fit : (r : ℕ) (v : Version) (bs : List BaseEntry) (cs vs : List Kept) → WasSent w' (Fenced v bs cs vs) → FencedFact (w'.replica r) v bs cs vs → IsBase bs × IsKept cs × IsKept vs
+module _ (p : Plan) (limits : PlanIsWithinLimits p) (w w' : World) (q : Reach p w) (q' : Reach p w') (step : Happens p w w')
+    (room : length w.mail < mail_limit) (before : AllMaySend w) where
+  fenced_fit : (r : ℕ) (v : Version) (bs : List BaseEntry) (cs vs : List Kept) → WasSent w' (Fenced v bs cs vs) →
+      FencedFact (w'.replica r) v bs cs vs → IsBase bs × IsKept cs × IsKept vs
   fenced_fit r v bs cs vs t f = (
     elim f.base [
       | inl z ↦ subst IsBase (sym z) (record { count = omega arith; rising = tt })
@@ -66,10 +71,14 @@ module _ (p : Plan) (limits : PlanIsWithinLimits p) (w w' : World) (q : Reach p 
   body_fit : (m : Envelope) → IsIn m w'.mail → (b : Body) → m.body ≡ b → IsFit b
   body_fit m i (Puts x ws) e = puts_short p limits w' q' x ws (record { envelope = m; there = i; body = e })
   body_fit m i (Prepare x k) e = prepared_short p limits w' q' x k (record { envelope = m; there = i; body = e })
-  body_fit m i (Finalize x v d o) e = let t : WasSent w' (Finalize x v d o) = record { envelope = m; there = i; body = e } in
-      (shaped_choice d o (proposal_shaped p limits.some_replica w' q' x v d o t), some_short o (λ k z. content_short p limits w' q' (Finalize x v d o) x k (refl, z) t))
-  body_fit m i (Decide x d o) e = let t : WasSent w' (Decide x d o) = record { envelope = m; there = i; body = e } in
-      (shaped_choice d o (shaped_reach p limits.some_replica w' q' x d o t), some_short o (λ k z. content_short p limits w' q' (Decide x d o) x k (refl, z) t))
+  body_fit m i (Finalize x v d o) e = let t : WasSent w' (Finalize x v d o) = record { envelope = m; there = i; body = e } in (
+    shaped_choice d o (proposal_shaped p limits.some_replica w' q' x v d o t),
+    some_short o (λ k z. content_short p limits w' q' (Finalize x v d o) x k (refl, z) t),
+  )
+  body_fit m i (Decide x d o) e = let t : WasSent w' (Decide x d o) = record { envelope = m; there = i; body = e } in (
+    shaped_choice d o (shaped_reach p limits.some_replica w' q' x d o t),
+    some_short o (λ k z. content_short p limits w' q' (Decide x d o) x k (refl, z) t),
+  )
   body_fit m i (Told x v vt ac de co) e = let t : WasSent w' (Told x v vt ac de co) = record { envelope = m; there = i; body = e } in
       some_short co (λ k z. content_short p limits w' q' (Told x v vt ac de co) x k (refl, z) t)
   body_fit m i (Fenced v bs cs vs) e = go m.from refl
@@ -77,7 +86,8 @@ module _ (p : Plan) (limits : PlanIsWithinLimits p) (w w' : World) (q : Reach p 
       go : (n : NodeId) → m.from ≡ n → IsBase bs × IsKept cs × IsKept vs
       go (Client c) f = absurd (subst (CFact c (w'.client c)) e ((client_facts_reach p w' q').said m c i f))
       go (Warden k) f = absurd (subst (WFact p.wardens k (w'.warden k)) e ((ward_facts_reach p w' q').said m k i f))
-      go (Replica r) f = fenced_fit r v bs cs vs (record { envelope = m; there = i; body = e }) (subst (RFact r (w'.replica r)) e ((facts_reach p w' q').said m r i f))
+      go (Replica r) f = fenced_fit r v bs cs vs (record { envelope = m; there = i; body = e })
+          (subst (RFact r (w'.replica r)) e ((facts_reach p w' q').said m r i f))
   body_fit m i (Drops v bs) e = drop_fit p limits.some_replica w w' q q' step room before m v bs i e
   body_fit m i _ e = tt
 
@@ -117,7 +127,8 @@ module _ (p : Plan) (limits : PlanIsWithinLimits p) where
       go (Not_enabled n z) = cc
       go (Refused u n full z) = absurd (omega (arith, full, room))
       go (Moved u n r z) = let f : v ≡ u = cc in
-          (after_event w e s).all m (subst (λ l. IsIn m l) (sym (ap (λ (x : World). x.mail) z)) (IsIn-right m w.mail u.sent (subst (λ (x : Move). IsIn m x.sent) f i)))
+          (after_event w e s).all m (subst (λ l. IsIn m l) (sym (ap (λ (x : World). x.mail) z))
+          (IsIn-right m w.mail u.sent (subst (λ (x : Move). IsIn m x.sent) f i)))
 
 pub envelopes_have_frames : EnvelopesHaveFrames
 envelopes_have_frames p limits events =

@@ -39,13 +39,14 @@ undecided_commit (m ∷ h) c i n = go (undecided_commit h c) (IsIn-cases c (new_
   where
     decides : (b : Body) → IsIn c (new_commit h b) → is_none (choice_for c.exec b) ≡ true → ⊥
     decides (Decide x ToCommit (Some k)) j e = let g = IsIn-one_when _ _ c j in let same : x ≡ c.exec = ap (λ (z : Kept). z.exec) (sym g.1) in
-        true_false (sym e ∙ subst (λ (y : Exec). is_none (then_some (same_exec c.exec y) ToCommit) ≡ false) (sym same) (ap (λ (t : Bool). is_none (then_some t ToCommit)) (same_exec_refl c.exec)))
+        true_false (sym e ∙ subst (λ (y : Exec). is_none (then_some (same_exec c.exec y) ToCommit) ≡ false) (sym same)
+        (ap (λ (t : Bool). is_none (then_some t ToCommit)) (same_exec_refl c.exec)))
     decides (Decide x ToCommit None) j e = j
     decides (Decide x Abandon o) j e = j
     decides _ j e = j
 
-    go : (IsIn c (commits h) → is_none (decided h c.exec) ≡ true → ⊥) → IsIn c (new_commit h m.body) ⊎ IsIn c (commits h) → (o : Option Choice) → decided h c.exec ≡ o →
-        is_none (option_or o (choice_for c.exec m.body)) ≡ true → ⊥
+    go : (IsIn c (commits h) → is_none (decided h c.exec) ≡ true → ⊥) → IsIn c (new_commit h m.body) ⊎ IsIn c (commits h) →
+        (o : Option Choice) → decided h c.exec ≡ o → is_none (option_or o (choice_for c.exec m.body)) ≡ true → ⊥
     go ih j (Some d) q n = true_false (sym n)
     go ih (inl j) None q n = decides m.body j n
     go ih (inr j) None q n = ih j (ap is_none q)
@@ -86,7 +87,8 @@ casts_apart [] = tt
 casts_apart (m ∷ h) = go (casts_apart h) m.body
   where
     go : HasApart (λ (c : Cast). c.exec) (casts h) → (b : Body) → HasApart (λ (c : Cast). c.exec) (new_cast h (casts h) b ++ casts h)
-    go ih (Prepare x k) = apart_more (λ (c : Cast). c.exec) (may_vote h (casts h) x) (record { exec = x; content = k; vote = verdict h (casts h) x k }) (casts h)
+    go ih (Prepare x k) =
+        apart_more (λ (c : Cast). c.exec) (may_vote h (casts h) x) (record { exec = x; content = k; vote = verdict h (casts h) x k }) (casts h)
         (λ e c i z. not_found x (casts h) (may_vote_first h x e) c i z) ih
     go ih _ = ih
 
@@ -134,7 +136,8 @@ put_rising c (d ∷ ds) n r = go (put_rising c ds (λ e i. n e (inr i)) r.1) (ex
 sorted_rising : (cs : List Kept) → HasApart (λ (c : Kept). c.exec) cs → IsRisingByExec (sorted_kept cs)
 sorted_rising [] d = tt
 sorted_rising (c ∷ cs) d = put_rising c (sorted_kept cs)
-    (λ e i z. d.0 (subst (λ (y : Exec). IsIn y (map (λ (k : Kept). k.exec) cs)) z (map_in (λ (k : Kept). k.exec) cs e (of_sorted cs e i)))) (sorted_rising cs d.1)
+    (λ e i z. d.0 (subst (λ (y : Exec). IsIn y (map (λ (k : Kept). k.exec) cs)) z (map_in (λ (k : Kept). k.exec) cs e (of_sorted cs e i))))
+    (sorted_rising cs d.1)
 
 pub committed_rising : (h : Handled) (version : Version) → IsRisingByExec (committed_upto h version)
 unfolding committed_upto
@@ -148,5 +151,6 @@ voted_rising h version = sorted_rising _ (as_kept _ (apart_filter (λ (c : Cast)
     names [] = refl
     names (c ∷ cs) = ap (λ (l : List Exec). c.exec ∷ l) (names cs)
 
-    as_kept : (cs : List Cast) → HasApart (λ (c : Cast). c.exec) cs → HasApart (λ (k : Kept). k.exec) (map (λ (y : Cast). record { exec = y.exec; content = y.content }) cs)
+    as_kept : (cs : List Cast) → HasApart (λ (c : Cast). c.exec) cs →
+        HasApart (λ (k : Kept). k.exec) (map (λ (y : Cast). record { exec = y.exec; content = y.content }) cs)
     as_kept cs d = subst HasNoRepeats (sym (names cs)) d

@@ -4,5 +4,8 @@ pub mod ContentsShort
 pub mod ProposalsShaped
 pub mod KeptRising
 pub mod ListsCounted
+pub mod RisingLemmas
 pub mod SentBefore
 pub mod EnvelopesHaveFrames
+pub mod ScriptsAreWithinLimits
+pub mod ViewsAreLeft

@@ -2,6 +2,7 @@
 use Rattle.std.proofs.Common.{◌≡◌, ℕ, ◌<◌, ◌≤◌, ◌⊎◌, inl, inr, refl, ap, sym, ◌∙◌, subst, true, false, Bool, cond, List, [], ◌∷◌, ◌++◌, Some, arith}
 use Rattle.std.specs.Prelude.{zero, suc, flat_map, map, ◌&&◌, ◌||◌}
 use Rattle.std.proofs.lemmas.Bool.Decides.{nat_tests}
+use Rattle.std.proofs.lemmas.List.{append-nil}
 use Rattle.protocol.specs.Words.{Exec, Key, NodeId, Client, Replica, Warden, Envelope, Body, Event, Get, before, same_version, key_before, same_key, Decide}
 use Rattle.protocol.specs.Lists.{IsIn, upto}
 use Rattle.protocol.specs.Replica.Taken.{Handled, takes}
@@ -66,7 +67,8 @@ module _ (p : Plan) where
   client_to : (k : ℕ) (x : Exec) (b : Body) (a : Parcel) → IsIn a (to_client (warden_rules p k) x b) → GoesToNode a
   client_to k x b a i = let j = IsIn-one_when _ (To_client x.ver.client b) a i in subst GoesToNode (sym j.1) j.0
 
-  act_to : (k : ℕ) (Got : NodeId → Body → Type 0) (s s' : WardenState) (sent : List Parcel) → WardenAct (warden_rules p k) Got s s' sent → (a : Parcel) → IsIn a sent → GoesToNode a
+  act_to : (k : ℕ) (Got : NodeId → Body → Type 0) (s s' : WardenState) (sent : List Parcel) → WardenAct (warden_rules p k) Got s s' sent →
+      (a : Parcel) → IsIn a sent → GoesToNode a
   unfolding recover next_view
   act_to k Got s s' sent (Rests act) a i = absurd (no_parcels sent a act.silent i)
   act_to k Got s s' sent (Asks act) a i = subst GoesToNode (sym (in_parcels sent _ a act.sends i)) tt
@@ -82,19 +84,22 @@ module _ (p : Plan) where
     | inr w ↦ decided (subst (λ (l : List Parcel). IsIn a l) w.2 i)
   ]
     where
-      decided : (a ≡ To_all (Decide act.exec act.proposal.choice act.proposal.content)) ⊎ IsIn a (to_client (warden_rules p k) act.exec (Decide act.exec act.proposal.choice act.proposal.content)) →
+      decided : (a ≡ To_all (Decide act.exec act.proposal.choice act.proposal.content))
+          ⊎ IsIn a (to_client (warden_rules p k) act.exec (Decide act.exec act.proposal.choice act.proposal.content)) →
           GoesToNode a
       decided (inl z) = subst GoesToNode (sym z) tt
       decided (inr j) = client_to k act.exec _ a j
 
-  chain_to : (k : ℕ) (Got : NodeId → Body → Type 0) (s s' : WardenState) (sent : List Parcel) → WardenChain (warden_rules p k) Got s s' sent → (a : Parcel) → IsIn a sent → GoesToNode a
+  chain_to : (k : ℕ) (Got : NodeId → Body → Type 0) (s s' : WardenState) (sent : List Parcel) → WardenChain (warden_rules p k) Got s s' sent →
+      (a : Parcel) → IsIn a sent → GoesToNode a
   chain_to k Got s _ _ Start a i = absurd i
   chain_to k Got s _ _ (Then s1 s2 p1 p2 chain act) a i = elim (IsIn-cases a p1 p2 i) [
     | inl j ↦ chain_to k Got s s1 p1 chain a j
     | inr j ↦ act_to k Got s1 s2 p2 act a j
   ]
 
-  turn_to : (k : ℕ) (s : WardenState) (i : WardenInput) (t : WardenTurn) → warden_step (warden_rules p k) s i ≡ Some t → (a : Parcel) → IsIn a t.sent → GoesToNode a
+  turn_to : (k : ℕ) (s : WardenState) (i : WardenInput) (t : WardenTurn) → warden_step (warden_rules p k) s i ≡ Some t →
+      (a : Parcel) → IsIn a t.sent → GoesToNode a
   turn_to k s i t q = chain_to k (λ n b. Unit {0}) s t.state t.sent (warden_acts (warden_rules p k) (λ n b. Unit {0}) s i t (heard i) q)
     where
       heard : (i : WardenInput) → HeardBy (warden_rules p k) (λ n b. Unit {0}) i
@@ -106,9 +111,11 @@ module _ (p : Plan) where
 
 put_reader_of : (r s : Reader) (rs : List Reader) → IsIn s (put_reader r rs) → (s ≡ r) ⊎ IsIn s rs
 put_reader_of r s [] i = i
-put_reader_of r s (t ∷ ts) i = go (put_reader_of r s ts) (key_before r.key t.key || (same_key r.key t.key && before r.ver t.ver)) (same_key r.key t.key && same_version r.ver t.ver) i
+put_reader_of r s (t ∷ ts) i = go (put_reader_of r s ts)
+    (key_before r.key t.key || (same_key r.key t.key && before r.ver t.ver)) (same_key r.key t.key && same_version r.ver t.ver) i
   where
-    go : (IsIn s (put_reader r ts) → (s ≡ r) ⊎ IsIn s ts) → (a b : Bool) → IsIn s (cond a (r ∷ t ∷ ts) (cond b (t ∷ ts) (t ∷ put_reader r ts))) → (s ≡ r) ⊎ IsIn s (t ∷ ts)
+    go : (IsIn s (put_reader r ts) → (s ≡ r) ⊎ IsIn s ts) → (a b : Bool) → IsIn s (cond a (r ∷ t ∷ ts) (cond b (t ∷ ts) (t ∷ put_reader r ts))) →
+        (s ≡ r) ⊎ IsIn s (t ∷ ts)
     go ih true b i = i
     go ih false true i = inr i
     go ih false false (inl z) = inr (inl z)
@@ -125,7 +132,8 @@ reader_asked : (h : Handled) (s : Reader) → IsIn s (readers h) → IsAsker h (
 reader_asked [] s i = absurd i
 reader_asked (m ∷ h) s i = go (reader_asked h s) m.body refl i
   where
-    go : (IsIn s (readers h) → IsAsker h (Client s.ver.client)) → (b : Body) → m.body ≡ b → IsIn s (reader_after (readers h) b) → IsAsker (m ∷ h) (Client s.ver.client)
+    go : (IsIn s (readers h) → IsAsker h (Client s.ver.client)) → (b : Body) → m.body ≡ b → IsIn s (reader_after (readers h) b) →
+        IsAsker (m ∷ h) (Client s.ver.client)
     go ih (Get x k) q i = elim (put_reader_of (record { key = k; ver = x.ver }) s (readers h) i) [
       | inl z ↦ (m, inl refl, (x, k, q, ap (λ (z : Reader). Client z.ver.client) z))
       | inr j ↦ asker_more m h _ (ih j)
@@ -142,7 +150,8 @@ says_to firsts r h m e i = go (takes h m.body) i
     note : (s : Reader) → IsIn s (readers h) → e.to ≡ Client s.ver.client → IsAsker h e.to
     note s j z = subst (IsAsker h) (sym z) (reader_asked h s j)
 
-    go : (t : Bool) → IsIn e (cond t (map (envelope_from r m.from) (answer firsts h m.body) ++ due firsts r h (m ∷ h)) (map (envelope_from r m.from) (refusal h m.body))) →
+    go : (t : Bool) →
+        IsIn e (cond t (map (envelope_from r m.from) (answer firsts h m.body) ++ due firsts r h (m ∷ h)) (map (envelope_from r m.from) (refusal h m.body))) →
         (e.to ≡ m.from) ⊎ IsAsker h e.to
     go true i = elim (IsIn-cases e (map (envelope_from r m.from) (answer firsts h m.body)) (due firsts r h (m ∷ h)) i) [
       | inl j ↦ inl (reply (answer firsts h m.body) j)
@@ -174,9 +183,19 @@ module _ (p : Plan) (w w' : World) (a : NodesExist p w) where
       fine : (m : Envelope) → IsIn m w'.mail → Fine m
       fine m i = elim (IsIn-cases m w.mail more (subst (λ (l : List Envelope). IsIn m l) e i)) [ inl j ↦ old m j | inr j ↦ new m j ]
 
+-- only a client asks
+replica_asks_not : (p : Plan) (w : World) → Reach p w → (m : Envelope) (r : ℕ) → IsIn m w.mail → m.from ≡ Replica r → (x : Exec) (k : Key) → m.body ≡ Get x k → ⊥
+replica_asks_not p w q m r i f x k b = subst (RFact r (w.replica r)) b ((facts_reach p w q).said m r i f)
+
+warden_asks_not : (p : Plan) (w : World) → Reach p w → (m : Envelope) (j : ℕ) → IsIn m w.mail → m.from ≡ Warden j → (x : Exec) (k : Key) → m.body ≡ Get x k → ⊥
+warden_asks_not p w q m j i f x k b = subst (WFact p.wardens j (w.warden j)) b ((ward_facts_reach p w q).said m j i f)
+
+in_new : (w w' : World) (more : List Envelope) → w'.mail ≡ w.mail ++ more → (m : Envelope) → IsIn m more → IsIn m w'.mail
+in_new w w' more e m i = subst (λ (l : List Envelope). IsIn m l) (sym e) (IsIn-right m w.mail more i)
+
 module _ (p : Plan) (w w' : World) (q : Reach p w) (a : NodesExist p w) where
   pub exists_stays : Happens p w w' → NodesExist p w'
-  exists_stays (Stays s) = record { from = λ m i. a.from m (rw s.mail at i); to = λ m i. a.to m (rw s.mail at i); asks = λ m x k i b. a.asks m x k (rw s.mail at i) b }
+  exists_stays (Stays s) = grown p w w' a [] (s.mail ∙ sym (append-nil w.mail)) (λ m i. absurd i)
   exists_stays (Client_moves s) = grown p w w' a _ s.mail (λ m i.
       let f = from_to_all p.replicas (Client s.c) s.turn.sent m i in
       (ap (exists p) f.0 ∙ s.real, to_all_replicas p (Client s.c) s.turn.sent m i, λ x k b. asked x k (subst (λ (c : Body). IsIn c s.turn.sent) b f.1)))
@@ -185,16 +204,19 @@ module _ (p : Plan) (w w' : World) (q : Reach p w) (a : NodesExist p w) where
       asked x k i = let o = asks_for_own (rules p s.c) (w.client s.c) s.input s.turn s.step x k i in
           let mine : x.ver.client ≡ s.c = ap (λ (y : Exec). y.ver.client) o.0 ∙ (rec_reach p w q s.c).own o.1 in
           ap (λ (c : ℕ). exists p (Client c)) mine ∙ s.real
-  exists_stays (Warden_moves s) = grown p w w' a _ s.mail (λ m i. let f = from_parcels p.replicas (Warden s.k) s.turn.sent m i in let g = IsIn-flat_map (parcel p.replicas (Warden s.k)) m s.turn.sent i in (
-    ap (exists p) f.0 ∙ s.real,
-    parcel_to p (Warden s.k) g.0 m (turn_to p s.k (w.warden s.k) s.input s.turn s.step g.0 g.1) g.2,
-    λ x k b. absurd (subst (WFact p.wardens s.k (w'.warden s.k)) b ((ward_facts_reach p w' (happens_reach p first_world w w' q (Warden_moves s))).said m s.k (subst (λ (l : List Envelope). IsIn m l) (sym s.mail) (IsIn-right m w.mail _ i)) f.0)),
-  ))
-  exists_stays (Replica_moves s) = grown p w w' a _ s.mail (λ m i. let f = spoken p.firsts s.r (w.replica s.r) s.m m i in (
-    ap (exists p) f.0 ∙ s.real,
-    to m (says_to p.firsts s.r (w.replica s.r) s.m m i),
-    λ x k b. absurd (subst (RFact s.r (w'.replica s.r)) b ((facts_reach p w' (happens_reach p first_world w w' q (Replica_moves s))).said m s.r (subst (λ (l : List Envelope). IsIn m l) (sym s.mail) (IsIn-right m w.mail _ i)) f.0)),
-  ))
+  exists_stays (Warden_moves s) = grown p w w' a _ s.mail (λ m i.
+      let f = from_parcels p.replicas (Warden s.k) s.turn.sent m i in
+      let g = IsIn-flat_map (parcel p.replicas (Warden s.k)) m s.turn.sent i in (
+        ap (exists p) f.0 ∙ s.real,
+        parcel_to p (Warden s.k) g.0 m (turn_to p s.k (w.warden s.k) s.input s.turn s.step g.0 g.1) g.2,
+        λ x k b. absurd (warden_asks_not p w' (happens_reach p first_world w w' q (Warden_moves s)) m s.k (in_new w w' _ s.mail m i) f.0 x k b),
+      ))
+  exists_stays (Replica_moves s) = grown p w w' a _ s.mail (λ m i.
+      let f = spoken p.firsts s.r (w.replica s.r) s.m m i in (
+        ap (exists p) f.0 ∙ s.real,
+        to m (says_to p.firsts s.r (w.replica s.r) s.m m i),
+        λ x k b. absurd (replica_asks_not p w' (happens_reach p first_world w w' q (Replica_moves s)) m s.r (in_new w w' _ s.mail m i) f.0 x k b),
+      ))
     where
       to : (m : Envelope) → (m.to ≡ s.m.from) ⊎ IsAsker (w.replica s.r) m.to → exists p m.to ≡ true
       to m (inl z) = ap (exists p) z ∙ a.from s.m s.in_mail

@@ -62,7 +62,8 @@ module _ (r : Rules) (P : Exec → Type 0) where
   unfolding next_execution
   goes_on c sent a = go (list_any other_value c.answers)
     where
-      go : (t : Bool) → Asks (cond t (record { state = rewound c (cut c.answers); sent = sent }) (prepare_if_ready r (relabelled c) (sent ++ puts_again r (relabelled c))))
+      go : (t : Bool) →
+          Asks (cond t (record { state = rewound c (cut c.answers); sent = sent }) (prepare_if_ready r (relabelled c) (sent ++ puts_again r (relabelled c))))
       go true = a
       go false = prepares (relabelled c) _ (asks_both P sent _ a (asks_when P _ _ tt))
 

@@ -1,12 +1,12 @@
 -- What a world sends rests on what was in its mail before.
-use Rattle.std.proofs.Common.{◌≡◌, ℕ, ◌<◌, ◌≤◌, ◌⊎◌, inl, inr, refl, sym, ◌∙◌, subst, Bool, List, [], ◌∷◌, ◌++◌, length, arith}
+use Rattle.std.proofs.Common.{◌≡◌, ℕ, ◌<◌, ◌≤◌, ◌⊎◌, inl, inr, refl, sym, ◌∙◌, subst, List, [], ◌∷◌, ◌++◌, length, arith}
 use Rattle.std.specs.Prelude.{map, flat_map}
 use Rattle.std.specs.List.{All}
 use Rattle.std.proofs.lemmas.List.{append-nil}
 use Rattle.std.proofs.lemmas.List.Elements.{All-nil, All-cons}
 use Rattle.morty_base.proofs.Orders.{exec_before_total}
 use Rattle.protocol.specs.Words.{Version, Exec, Key, Write, NodeId, Client, Replica, Warden, Envelope, Body, Content, Kept, BaseEntry, Prepare, Drops, exec_before, key_before}
-use Rattle.protocol.specs.Lists.{IsIn, IsRisingBy}
+use Rattle.protocol.specs.Lists.{IsIn}
 use Rattle.protocol.specs.Replica.Taken.{after_taking}
 use Rattle.protocol.specs.World.State.{Plan, World, mail_limit}
 use Rattle.protocol.specs.World.Steps.{Happens}
@@ -15,7 +15,7 @@ use Rattle.protocol.specs.World.Decided.{WasSent, IsRising}
 use Rattle.protocol.proofs.ListsLemmas.{IsIn-cases, IsIn-map, map_in, flat_map_in, at_cases}
 use Rattle.protocol.proofs.NamesLemmas.{key_irreflexive}
 use Rattle.wire.specs.Values.{most_short}
-use Rattle.wire.specs.Sendable.{IsShort, Rises, IsBase, IsKept, IsFit, MaySend}
+use Rattle.wire.specs.Sendable.{IsShort, IsBase, IsKept, IsFit, MaySend}
 use Rattle.law_steps.proofs.Reach.{Reach}
 use Rattle.law_steps.proofs.SaysLemmas.{spoken}
 use Rattle.law_steps.proofs.SendingLemmas.{from_to_all, from_parcels}
@@ -27,13 +27,8 @@ use Rattle.law_safety.proofs.BaseEntries.{entry_write}
 use Rattle.law_safety.proofs.BaseOfDrop.{drop_base}
 use Rattle.law_safety.proofs.OneContent.{contents_reach}
 use Rattle.law_frames.proofs.ListsCounted.{distinct_within, rising_distinct, length_names, length_joined}
+use Rattle.law_frames.proofs.RisingLemmas.{rises}
 use Rattle.law_frames.proofs.KeptRising.{IsRisingByExec}
-
--- what is before all that comes after it is before the next
-pub rises : {A : Type 0} (earlier : A → A → Bool) (xs : List A) → IsRisingBy earlier xs → Rises earlier xs
-rises earlier [] r = tt
-rises earlier (x ∷ []) r = (tt, tt)
-rises earlier (x ∷ y ∷ xs) r = (r.0 y (inl refl), rises earlier (y ∷ xs) r.1)
 
 all_of : {A : Type 0} (P : A → Type 0) (xs : List A) → ((a : A) → IsIn a xs → P a) → All P xs
 all_of P [] f = All-nil P
@@ -61,18 +56,22 @@ execs_few _ = omega arith
 
 module _ (w : World) where
   prepared_exec : (x : Exec) (k : Content) → WasSent w (Prepare x k) → IsIn x (prepared_execs w)
-  prepared_exec x k t = flat_map_in (λ (m : Envelope). execs_in m.body) w.mail t.envelope x t.there (subst (λ (b : Body). IsIn x (execs_in b)) (sym t.body) (inl refl))
+  prepared_exec x k t = flat_map_in (λ (m : Envelope). execs_in m.body) w.mail t.envelope x t.there
+      (subst (λ (b : Body). IsIn x (execs_in b)) (sym t.body) (inl refl))
 
   prepared_key : (x : Exec) (k : Content) (key : Key) → WasSent w (Prepare x k) → IsIn key (map (λ (w : Write). w.key) k.writes) → IsIn key (prepared_keys w)
-  prepared_key x k key t i = flat_map_in (λ (m : Envelope). keys_in m.body) w.mail t.envelope key t.there (subst (λ (b : Body). IsIn key (keys_in b)) (sym t.body) i)
+  prepared_key x k key t i = flat_map_in (λ (m : Envelope). keys_in m.body) w.mail t.envelope key t.there
+      (subst (λ (b : Body). IsIn key (keys_in b)) (sym t.body) i)
 
 module _ (w : World) (room : length w.mail < mail_limit) where
   -- rising contents that were prepared
   pub kept_fit : (cs : List Kept) → IsRisingByExec cs → ((k : Kept) → IsIn k cs → WasSent w (Prepare k.exec k.content)) →
       ((k : Kept) → IsIn k cs → IsShort k.content) → IsKept cs
   kept_fit cs rising prepared short =
-      let l = distinct_within (map (λ (k : Kept). k.exec) cs) (prepared_execs w) (rising_distinct (λ (k : Kept). k.exec) exec_before exec_before_total.irreflexive cs rising)
-      (λ x i. let k = IsIn-map (λ (k : Kept). k.exec) x cs i in subst (λ (y : Exec). IsIn y (prepared_execs w)) (sym k.2) (prepared_exec w k.0.exec k.0.content (prepared k.0 k.1))) in
+      let l = distinct_within (map (λ (k : Kept). k.exec) cs) (prepared_execs w)
+      (rising_distinct (λ (k : Kept). k.exec) exec_before exec_before_total.irreflexive cs rising)
+      (λ x i. let k = IsIn-map (λ (k : Kept). k.exec) x cs i in
+      subst (λ (y : Exec). IsIn y (prepared_execs w)) (sym k.2) (prepared_exec w k.0.exec k.0.content (prepared k.0 k.1))) in
       let n = length_names (λ (k : Kept). k.exec) cs in
       let m = length_joined (λ (m : Envelope). execs_in m.body) 1 w.mail (λ m i. execs_few m.body) in
       record { count = omega (arith, l, n, m, room); rising = rises _ cs rising; short = all_of _ cs short }
@@ -81,7 +80,8 @@ module _ (w : World) (room : length w.mail < mail_limit) where
   pub base_fit : ((m : Envelope) → IsIn m w.mail → length (keys_in m.body) ≤ most_short) → (bs : List BaseEntry) → IsRising bs →
       ((d : BaseEntry) → IsIn d bs → IsIn d.key (prepared_keys w)) → IsBase bs
   base_fit short bs rising prepared =
-      let l = distinct_within (map (λ (d : BaseEntry). d.key) bs) (prepared_keys w) (rising_distinct (λ (d : BaseEntry). d.key) key_before key_irreflexive bs rising)
+      let l = distinct_within (map (λ (d : BaseEntry). d.key) bs) (prepared_keys w)
+      (rising_distinct (λ (d : BaseEntry). d.key) key_before key_irreflexive bs rising)
       (λ x i. let k = IsIn-map (λ (d : BaseEntry). d.key) x bs i in subst (λ (y : Key). IsIn y (prepared_keys w)) (sym k.2) (prepared k.0 k.1)) in
       let n = length_names (λ (d : BaseEntry). d.key) bs in
       let m = length_joined (λ (m : Envelope). keys_in m.body) most_short w.mail short in
@@ -97,7 +97,10 @@ keys_few m s = go m.body s.body
 -- ---- a step
 
 -- all that one step sends is from one node
-one_sender : (p : Plan) (w w' : World) → Happens p w w' → (more : List Envelope) × (w'.mail ≡ w.mail ++ more) × ((node : NodeId) × ((m : Envelope) → IsIn m more → m.from ≡ node))
+abbrev IsOfOne : World → World → Type 0
+IsOfOne w w' = (more : List Envelope) × (w'.mail ≡ w.mail ++ more) × ((node : NodeId) × ((m : Envelope) → IsIn m more → m.from ≡ node))
+
+one_sender : (p : Plan) (w w' : World) → Happens p w w' → IsOfOne w w'
 one_sender p w w' (Stays s) = ([], s.mail ∙ sym (append-nil w.mail), (Client 0, λ m i. absurd i))
 one_sender p w w' (Client_moves s) = (_, s.mail, (Client s.c, λ m i. (from_to_all p.replicas (Client s.c) s.turn.sent m i).0))
 one_sender p w w' (Replica_moves s) = (_, s.mail, (Replica s.r, λ m i. (spoken p.firsts s.r (w.replica s.r) s.m m i).0))
@@ -128,8 +131,7 @@ module _ (p : Plan) (some : 0 < p.replicas) (w w' : World) (q : Reach p w) (q' :
       IsIn m w.mail ⊎ ((x : Exec) (k : Content) → WasSent w' (Prepare x k) → WasSent w (Prepare x k))
   drop_alone m v bs i e = go (one_sender p w w' step)
     where
-      go : (more : List Envelope) × (w'.mail ≡ w.mail ++ more) × ((node : NodeId) × ((m : Envelope) → IsIn m more → m.from ≡ node)) →
-          IsIn m w.mail ⊎ ((x : Exec) (k : Content) → WasSent w' (Prepare x k) → WasSent w (Prepare x k))
+      go : IsOfOne w w' → IsIn m w.mail ⊎ ((x : Exec) (k : Content) → WasSent w' (Prepare x k) → WasSent w (Prepare x k))
       go o = elim (IsIn-cases m w.mail o.0 (subst (λ l. IsIn m l) o.1 i)) [
         | inl j ↦ inl j
         | inr j ↦ inr (λ x k t. elim (IsIn-cases t.envelope w.mail o.0 (subst (λ l. IsIn t.envelope l) o.1 t.there)) [

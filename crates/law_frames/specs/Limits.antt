@@ -5,6 +5,8 @@ use Rattle.wire.specs.Values.{most_short}
 use Rattle.wire.specs.Frame.{client, replica, warden, most_nodes}
 use Rattle.protocol.specs.Client.State.{Walk, walk_at}
 use Rattle.protocol.specs.World.State.{Plan, rules}
+use Rattle.protocol_plans.specs.Scripted.{Scripted, plan_of}
+use Rattle.protocol_plans.specs.Limits.{IsScript}
 
 -- on each list of answers a program reads, writes and prints no more than a frame has room for
 pub record IsShortWalk (walk : List ℤ → Walk) : Type 0 where
@@ -19,3 +21,7 @@ pub record PlanIsWithinLimits (p : Plan) : Type 0 where
   pub replicas : p.replicas ≤ most_nodes replica
   pub wardens : p.wardens ≤ most_nodes warden
   pub walks : (c n : ℕ) → IsShortWalk (walk_at (slice_get (rules p c).txns n))
+
+-- the plan of a script within its limits is so
+abbrev pub ScriptsAreWithinLimits : Type 0
+ScriptsAreWithinLimits = (s : Scripted) → IsScript s → PlanIsWithinLimits (plan_of s)
