@@ -1,0 +1,3 @@
+pub mod Recovered
+pub mod LateLemmas
+pub mod ChoiceLemmas

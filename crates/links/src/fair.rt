@@ -1,0 +1,48 @@
+ghost use Rattle.std.specs.Prelude.{◌≡◌};
+ghost use Rattle.net_core.specs.declared.plan.LinkKind.TheVariants.{Fair};
+ghost use Rattle.links.specs.Shown.{first_link};
+
+use crate::ruled::RuledLink;
+use morty_base::NoMemory;
+use net_core::{Link, LinkKind, LinkPlan, Menu, Pick};
+use std::alloc::Global;
+
+/// A link that delivers in order, and takes the items of its plan that are due.
+#[derive(Drop)]
+pub struct FairLink {
+    link: RuledLink,
+}
+
+impl FairLink {
+    /// One for this slot, which picked nothing.
+    pub fn new(alloc: Global, slot: u32) -> FairLink
+        ensures { ⟦<FairLink as Link>⟧.state_of result ≡ first_link Fair slot }
+    {
+        FairLink {
+            link: RuledLink::new(alloc, LinkKind::Fair, slot),
+        }
+    }
+}
+
+impl Link for FairLink {
+    ghost use Rattle.links.specs.Shown.{shown_state};
+
+    ghost state_of = { λ l. shown_state l.link };
+
+    fn kind(&self) -> LinkKind {
+        self.link.kind()
+    }
+
+    fn slot(&self) -> u32 {
+        self.link.slot()
+    }
+
+    fn begin(&mut self, plan: LinkPlan) -> Result<(), NoMemory> {
+        self.link.begin(plan);
+        Ok(())
+    }
+
+    fn pick(&mut self, menu: &Menu<'_>) -> Result<Pick, NoMemory> {
+        self.link.pick(menu)
+    }
+}

@@ -1,0 +1,19 @@
+//! The links of the program: one that delivers in order, one that follows a list, one that draws by a seed. Each tells its
+//! mind, and its picks follow the rule of its kind (`link_rule` of `net_core`).
+//!
+//! The three are one link that knows its kind (`ruled`), under three names. `ruled` takes what is due of the plan
+//! (`planned`), what is drawn (`drawing`) or the fair pick (`fairly`). What a link shows is said in `specs/Shown`; that a
+//! code's two lists of late envelopes are one list of the definitions in `specs/Drawings`.
+#![tactic(auto)]
+
+mod drawing;
+mod fair;
+mod fairly;
+mod listed;
+mod planned;
+mod ruled;
+mod seeded;
+
+pub use fair::FairLink;
+pub use listed::ListedLink;
+pub use seeded::SeededLink;
