@@ -8,4 +8,5 @@ pub mod RisingLemmas
 pub mod SentBefore
 pub mod EnvelopesHaveFrames
 pub mod ScriptsAreWithinLimits
+pub mod ViewsUsed
 pub mod ViewsAreLeft

@@ -184,10 +184,12 @@ module _ (p : Plan) (w w' : World) (a : NodesExist p w) where
       fine m i = elim (IsIn-cases m w.mail more (subst (λ (l : List Envelope). IsIn m l) e i)) [ inl j ↦ old m j | inr j ↦ new m j ]
 
 -- only a client asks
-replica_asks_not : (p : Plan) (w : World) → Reach p w → (m : Envelope) (r : ℕ) → IsIn m w.mail → m.from ≡ Replica r → (x : Exec) (k : Key) → m.body ≡ Get x k → ⊥
+replica_asks_not : (p : Plan) (w : World) → Reach p w → (m : Envelope) (r : ℕ) → IsIn m w.mail → m.from ≡ Replica r →
+    (x : Exec) (k : Key) → m.body ≡ Get x k → ⊥
 replica_asks_not p w q m r i f x k b = subst (RFact r (w.replica r)) b ((facts_reach p w q).said m r i f)
 
-warden_asks_not : (p : Plan) (w : World) → Reach p w → (m : Envelope) (j : ℕ) → IsIn m w.mail → m.from ≡ Warden j → (x : Exec) (k : Key) → m.body ≡ Get x k → ⊥
+warden_asks_not : (p : Plan) (w : World) → Reach p w → (m : Envelope) (j : ℕ) → IsIn m w.mail → m.from ≡ Warden j →
+    (x : Exec) (k : Key) → m.body ≡ Get x k → ⊥
 warden_asks_not p w q m j i f x k b = subst (WFact p.wardens j (w.warden j)) b ((ward_facts_reach p w q).said m j i f)
 
 in_new : (w w' : World) (more : List Envelope) → w'.mail ≡ w.mail ++ more → (m : Envelope) → IsIn m more → IsIn m w'.mail

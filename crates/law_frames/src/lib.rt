@@ -8,8 +8,9 @@
 //! Fence is in rising order, since it has one committed content and one vote of each execution (`KeptRising`,
 //! `RisingLemmas`). Such a list is not longer than the list of what was prepared (`ListsCounted`), which stood in the mail
 //! while that still had room (`SentBefore`). By these each step sends what has a frame, if all that was sent before it has
-//! (`EnvelopesHaveFrames`). The plan of each script is within the limits (`ScriptsAreWithinLimits`), and a warden has used no
-//! more views than there are envelopes (`ViewsAreLeft`).
+//! (`EnvelopesHaveFrames`). The plan of each script is within the limits (`ScriptsAreWithinLimits`), and a warden, which
+//! uses at most one view of an execution in a step (`ViewsUsed`), has used no more than the mail has room for
+//! (`ViewsAreLeft`).
 #![tactic(auto)]
 
 ghost use Rattle.law_frames.specs.Frames.{EnvelopesHaveFrames};
@@ -26,7 +27,7 @@ pub fn scripts_are_within_limits()
     ensures { ScriptsAreWithinLimits }
 {}
 
-/// While the mail has room, a warden has a view left for each execution.
+/// A warden has a view left for each execution, whatever happens.
 pub fn views_are_left()
     ensures { ViewsAreLeft }
 {}
