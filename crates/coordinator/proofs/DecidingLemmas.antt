@@ -1,8 +1,7 @@
 -- What follows from a decision is what the definitions say.
-use Rattle.std.proofs.Common.{◌≡◌, ℕ, ◌+◌, ◌^◌, ◌-◌, ◌<◌, ◌≤◌, min, Bool, true, false, not, cond, List, [], ◌∷◌, ◌++◌, map, length, Option, Some, None, refl, ap, sym, subst, ◌∙◌, arith}
-use Rattle.std.specs.Prelude.{is_none, nat_lt, ◌&&◌}
+use Rattle.std.proofs.Common.{◌≡◌, ℕ, ◌+◌, ◌^◌, ◌-◌, min, Bool, true, false, List, [], ◌∷◌, ◌++◌, map, Option, None, refl, ap, sym, subst, ◌∙◌, arith}
+use Rattle.std.specs.Prelude.{nat_lt, ◌&&◌}
 use Rattle.std.specs.List.{list_any}
-use Rattle.std.proofs.lemmas.Bool.Decides.{nat_tests}
 use Rattle.exec_log.specs.Log.{ending_by}
 use Rattle.protocol.specs.Words.{Exec, Choice, Abandon, ToCommit, Content, Body, Puts, Decide}
 use Rattle.protocol.specs.Lists.{one_when}
@@ -21,7 +20,7 @@ use Rattle.coordinator.specs.declared.memory.Ballot.{Ballot}
 use Rattle.coordinator.specs.declared.memory.Stage.{Stage}
 use Rattle.coordinator.specs.declared.memory.Stage.TheVariants as stage
 use Rattle.coordinator.specs.declared.memory.Memory.{Memory}
-use Rattle.coordinator.specs.Memory.{Given, Holds, StandsFor, Takes, current, phase_of, rerun_memory}
+use Rattle.coordinator.specs.Memory.{Given, Holds, StandsFor, Takes, accepts_of, choice_of, current, phase_of, rerun_memory}
 use Rattle.coordinator.proofs.AttemptLemmas.{below, least}
 use Rattle.coordinator.proofs.SegmentLemmas.{walk_now}
 
@@ -72,8 +71,8 @@ pub record IsPrepared (m : Memory) (b : Ballot) (k : Content) (vs : List Counted
   pub at : m.stage ≡ stage.Prepared b
   pub content : b.content ≡ k
   pub votes : b.tally.votes ≡ vs
-  pub proposal : b.proposal ≡ d
-  pub accepts : b.accepts ≡ js
+  pub proposal : choice_of b.proposal ≡ d
+  pub accepts : accepts_of b.proposal ≡ js
   pub still : is_pending m.execution ≡ false
   pub replicas : b.tally.replicas ≡ m.plan.rules.replicas
 

@@ -1,13 +1,12 @@
 -- A client follows Notes as the definitions say.
-use Rattle.std.proofs.Common.{◌≡◌, ℕ, ℤ, zero, suc, ◌+◌, ◌<◌, Bool, true, false, not, cond, List, [], ◌∷◌, ◌++◌, length, take, get_or, set, Option, Some, None, refl, ap, sym, subst, ◌∙◌}
-use Rattle.std.specs.Prelude.{is_none, nat_lt, ◌&&◌, IsSome}
+use Rattle.std.proofs.Common.{◌≡◌, ℕ, zero, suc, ◌+◌, Bool, true, false, not, List, [], ◌∷◌, ◌++◌, take, get_or, set, Option, Some, None, refl, ap, sym, subst, ◌∙◌}
+use Rattle.std.specs.Prelude.{is_none, nat_lt, ◌&&◌}
 use Rattle.std.specs.Ordering.{int_eq}
 use Rattle.exec_log.specs.Log.{asked_by}
 use Rattle.continuation.specs.declared.segment.Next.{Next}
 use Rattle.protocol.specs.Words.{Wid, Key, Body}
 use Rattle.protocol.specs.declared.Held.{Held}
-use Rattle.protocol.specs.Client.State as protocol
-use Rattle.protocol.specs.Client.State.{Answer, ClientState, Turn, Walk, idle, walk}
+use Rattle.protocol.specs.Client.State.{Answer, ClientState, Walk, idle, walk}
 use Rattle.protocol.specs.Client.State.Phase.{Running}
 use Rattle.protocol.specs.Client.Attempts.{bumped, has_pending, prepare_if_ready}
 use Rattle.protocol.specs.Client.Deciding.{give_up, rewound}
@@ -24,7 +23,6 @@ use Rattle.coordinator.specs.declared.memory.Stage.TheVariants as stage
 use Rattle.coordinator.specs.declared.memory.Memory.{Memory}
 use Rattle.coordinator.specs.Memory.{Given, StandsFor, Takes, current}
 use Rattle.coordinator.proofs.SegmentLemmas.{keys_now, runs_bare, runs_so, walk_now}
-use Rattle.coordinator.proofs.DecidingLemmas.{exec_is}
 
 pub stays : (g : Given) (c : ClientState) (m : Memory) (out : List Body) → StandsFor g c m → out ≡ [] → Takes g (idle c) m out
 stays g c m out s is = record { state = s; sent = is }

@@ -6,3 +6,6 @@ pub mod DecidingLemmas
 pub mod CountingLemmas
 pub mod FollowingLemmas
 pub mod NextLabelLemmas
+pub mod VoteLemmas
+pub mod AcceptLemmas
+pub mod EnvelopeLemmas

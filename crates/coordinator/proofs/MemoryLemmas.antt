@@ -5,16 +5,16 @@ use Rattle.std.proofs.lemmas.Option.{slice_get-map}
 use Rattle.protocol.specs.Client.State as protocol
 use Rattle.protocol.specs.Client.State.{ClientState, Phase, Txn, walk, walk_at, values}
 use Rattle.protocol.specs.Client.State.Phase.{Between, Running, Prepared}
-use Rattle.protocol.specs.Words.{Choice}
 use Rattle.protocol.specs.Client.Step.{on_hurry}
 use Rattle.execution.specs.Execution.{Loaded, walk_of}
 use Rattle.coordinator.specs.declared.memory.Txn2.{Txn2}
 use Rattle.coordinator.specs.declared.memory.Course.{Course}
+use Rattle.coordinator.specs.declared.memory.Proposed.{Proposed}
 use Rattle.coordinator.specs.declared.memory.Ballot.{Ballot}
 use Rattle.coordinator.specs.declared.memory.Stage.{Stage}
 use Rattle.coordinator.specs.declared.memory.Stage.TheVariants as stage
 use Rattle.coordinator.specs.declared.memory.Memory.{Memory}
-use Rattle.coordinator.specs.Memory.{Given, StandsFor, program_of, current, txn_in, phase_of}
+use Rattle.coordinator.specs.Memory.{Given, StandsFor, accepts_of, choice_of, program_of, current, txn_in, phase_of}
 
 -- the program of a transaction does what its walk says
 walk_in : (programs : List Loaded) (o : Option Txn2) (vs : List ℤ) → walk_at (option_map (txn_in programs) o) vs ≡ walk_of (program_of programs o) vs
@@ -29,8 +29,8 @@ walk_is g c m s vs =
     ∙ walk_in g.programs (slice_get m.plan.txns (c.begun - 1)) vs
     ∙ ap (λ n. walk_of (current g.programs m.plan n) vs) (ap (λ (k : Course). k.begun) s.course)
 
-hurries_at : (r : protocol.Rules) (c : ClientState) (b : Ballot) (o : Option Choice) →
-    not (is_some o) ≡ is_some (on_hurry r c (Prepared b.content b.tally.votes o b.accepts))
+hurries_at : (r : protocol.Rules) (c : ClientState) (b : Ballot) (o : Option Proposed) →
+    not (is_some o) ≡ is_some (on_hurry r c (Prepared b.content b.tally.votes (choice_of o) (accepts_of o)))
 unfolding on_hurry
 hurries_at r c b None = refl
 hurries_at r c b (Some d) = refl

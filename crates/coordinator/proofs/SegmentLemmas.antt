@@ -1,12 +1,12 @@
 -- What a client does once a segment was given back, and when it prepares.
-use Rattle.std.proofs.Common.{◌≡◌, ℕ, ◌<◌, ◌-◌, min, Bool, true, false, not, cond, List, [], ◌∷◌, ◌++◌, length, Option, Some, None, refl, ap, sym, subst, ◌∙◌, arith, ℤ}
-use Rattle.std.specs.Prelude.{IsSome, is_none, is_some, nat_lt, ◌&&◌, ◌||◌, ◌==◌, slice_get}
+use Rattle.std.proofs.Common.{◌≡◌, min, Bool, true, false, not, List, [], ◌∷◌, ◌++◌, length, Option, Some, None, refl, ap, sym, subst, ◌∙◌, ℤ}
+use Rattle.std.specs.Prelude.{IsSome, is_none, is_some, nat_lt, ◌&&◌, ◌||◌}
 use Rattle.std.specs.List.{list_all}
 use Rattle.continuation.specs.declared.segment.Next.{Next}
 use Rattle.continuation.specs.declared.segment.Seg.{Seg}
 use Rattle.continuation.specs.Job.{IsJobRun}
 use Rattle.exec_log.specs.Log.{asked_by, ending_by}
-use Rattle.protocol.specs.Words.{Exec, Ending, Content, Body, Key, Puts, Prepare}
+use Rattle.protocol.specs.Words.{Ending, Content, Body, Puts, Prepare}
 use Rattle.protocol.specs.Lists.{one_when}
 use Rattle.protocol.specs.Client.State as protocol
 use Rattle.protocol.specs.Client.State.{Answer, ClientState, Phase, Turn, Walk, content, is_done, may_put, reads_of, values, walk, walk_at}
@@ -78,10 +78,10 @@ content_now g c m how s still =
 pub stands_prepared : (g : Given) (c : ClientState) (m : Memory) (given : Bool) (how : Ending) (b : Ballot) (sent out : List Body) (k : Content) →
     StandsFor g c m → c.phase ≡ Running false given → ending_by m.execution.log.next ≡ Some how →
     ((l : Loaded) (e : Ending) → execution.StandsFor (Some l) m.execution → ending_by m.execution.log.next ≡ Some e → b.content ≡ content_of m.execution e) →
-    k ≡ b.content → b.tally ≡ record { replicas = min m.plan.rules.replicas 5; votes = [] } → b.proposal ≡ None → b.accepts ≡ [] → out ≡ sent ++ Prepare m.course.exec k ∷ [] →
+    k ≡ b.content → b.tally ≡ record { replicas = min m.plan.rules.replicas 5; votes = [] } → b.proposal ≡ None → out ≡ sent ++ Prepare m.course.exec k ∷ [] →
     Takes g (record { state = record c { phase = Prepared (content g.rules c how) [] None [] }; sent = sent ++ Prepare c.exec (content g.rules c how) ∷ [] })
     (record m { stage = stage.Prepared b }) out
-stands_prepared g c m given how b sent out k s runs ends is copy tally proposal accepts more =
+stands_prepared g c m given how b sent out k s runs ends is copy tally proposal more =
     let still = (runs_so g c m false given s runs).1 in
     let o = current g.programs m.plan m.course.begun in
     let l = has_program o m.execution s.execution still in
@@ -95,7 +95,7 @@ stands_prepared g c m given how b sent out k s runs ends is copy tally proposal 
         within = s.within;
         answers = s.answers;
         execution = s.execution;
-        phase = rw (same, tally, proposal, accepts) refl;
+        phase = rw (same, tally, proposal) refl;
         holds = (still, ap (λ (t : Counted). t.replicas) tally ∙ least m.plan.rules.replicas 5 s.limits.replicas);
       };
       sent = more ∙ ap (λ x. sent ++ Prepare x k ∷ []) (sym (ap (λ (h : Course). h.exec) s.course)) ∙ ap (λ x. sent ++ Prepare c.exec x ∷ []) (copy ∙ same);

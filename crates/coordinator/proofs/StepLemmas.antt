@@ -1,11 +1,7 @@
 -- The steps of a client, and what a coordinator that took one is.
-use Rattle.std.proofs.Common.{◌≡◌, ℕ, Bool, true, false, cond, List, [], ◌∷◌, ◌++◌, Option, Some, None, refl, ap, sym, subst, ◌∙◌}
+use Rattle.std.proofs.Common.{◌≡◌, ℕ, Bool, true, false, cond, List, ◌++◌, Some, None, refl, ap, sym, ◌∙◌}
 use Rattle.std.specs.Prelude.{◌&&◌, ◌==◌, ◌-◌, flat_map, slice_get}
 use Rattle.continuation.specs.declared.segment.Job.{Job}
-use Rattle.continuation.specs.declared.segment.Seg.{Seg}
-use Rattle.continuation.specs.declared.segment.JobAt.{JobAt}
-use Rattle.continuation.specs.Job.{IsJobRun}
-use Rattle.flat_code.specs.Operation.{Flat}
 use Rattle.protocol.specs.Words.{Body, Client, Content, Envelope}
 use Rattle.protocol.specs.Client.Counting.{hurried, propose}
 use Rattle.protocol.specs.Client.State as protocol

@@ -1,3 +1,5 @@
 pub mod Memory
 pub mod Following
 pub mod Coordinator
+pub mod Counting
+pub mod Step

@@ -1,6 +1,6 @@
 -- When what a client keeps stands for what the definitions remember.
 use Rattle.std.specs.Prelude.{◌≡◌, ℕ, ◌+◌, ◌-◌, ◌*◌, ◌^◌, ◌≤◌, min, max, Bool, false, cond, ◌&&◌, ◌==◌, List, [], map, length, Option, Some, None, slice_get}
-use Rattle.protocol.specs.Words.{Version, Body}
+use Rattle.protocol.specs.Words.{Version, Body, Choice}
 use Rattle.protocol.specs.declared.Fate.TheVariants.{Live}
 use Rattle.protocol.specs.Client.Attempts.{bumped}
 use Rattle.protocol.specs.Client.State as protocol
@@ -13,6 +13,7 @@ use Rattle.execution.specs.declared.execution.Execution.{Execution}
 use Rattle.coordinator.specs.declared.memory.Txn2.{Txn2}
 use Rattle.coordinator.specs.declared.memory.Plan.{Plan}
 use Rattle.coordinator.specs.declared.memory.Course.{Course}
+use Rattle.coordinator.specs.declared.memory.Proposed.{Proposed}
 use Rattle.coordinator.specs.declared.memory.Stage.{Stage}
 use Rattle.coordinator.specs.declared.memory.Stage.TheVariants as stage
 use Rattle.coordinator.specs.declared.memory.Memory.{Memory}
@@ -65,11 +66,21 @@ pub record IsWithin (p : Plan) (k : Course) : Type 0 where
 abbrev pub course_of : ClientState → Course
 course_of c = record { begun = c.begun; attempt = c.try; exec = c.exec; serial = c.serial; fate = c.fate }
 
+-- the choice that was proposed
+abbrev pub choice_of : Option Proposed → Option Choice
+choice_of None = None
+choice_of (Some p) = Some p.choice
+
+-- who accepted it
+abbrev pub accepts_of : Option Proposed → List ℕ
+accepts_of None = []
+accepts_of (Some p) = p.accepts
+
 -- the phase at a stage of an execution
 abbrev pub phase_of : Stage → Execution → Phase
 phase_of stage.Between e = Between
 phase_of (stage.Running given) e = Running (is_pending e) given
-phase_of (stage.Prepared b) e = Prepared b.content b.tally.votes b.proposal b.accepts
+phase_of (stage.Prepared b) e = Prepared b.content b.tally.votes (choice_of b.proposal) (accepts_of b.proposal)
 
 -- next labels are there while an execution is prepared alone, which has ended and is voted on by all replicas
 abbrev pub Holds : Plan → Stage → Execution → Type 0

@@ -4,7 +4,7 @@ ghost use Rattle.protocol.specs.Client.Attempts.{can_go, has_pending};
 ghost use Rattle.continuation.specs.Job.{FitsCode};
 ghost use Rattle.execution.specs.Execution.{Loaded};
 ghost use Rattle.protocol.specs.Client.Step.{client_step, on_hurry};
-ghost use Rattle.protocol.specs.Client.Step.Input.{Goes, Runs, Hurries};
+ghost use Rattle.protocol.specs.Client.Step.Input.{Goes, Runs, Hurries, Comes};
 ghost use Rattle.coordinator.specs.Memory.{Given, IsWithinLimits, awaits, current, pending_job, rules_of};
 
 use crate::memory::{Attempt, Course, Memory, Plan, Rules, Stage, Txn2};
@@ -181,6 +181,28 @@ impl Coordinator {
         }
         self.broken = true;
         let sent = self.memory.hurry(alloc)?;
+        self.memory.plan.send(alloc, sent.as_slice(), out)?;
+        self.broken = false;
+        Ok(())
+    }
+
+    /// Takes an envelope. One that means nothing to a client now changes nothing.
+    pub fn handle(
+        &mut self,
+        alloc: Global,
+        env: &Envelope,
+        out: &mut List<Envelope>,
+    ) -> Result<(), NoMemory>
+        ensures turn { OnOk result ((g : Given) (c : ClientState) (t : Turn) → StandsFor g c self.old → client_step g.rules c (Comes env.now.from env.now.body) ≡ Some t → Does g t self.new out.old out.new) }
+        ensures kept { OnErr result (out.new ≡ out.old) }
+        ensures broken { IsTrue (is_broken self.old) → IsErr result }
+        ensures breaks { OnErr result (IsTrue (is_broken self.new)) }
+    {
+        if self.broken {
+            return Err(NoMemory);
+        }
+        self.broken = true;
+        let sent = self.memory.comes(alloc, env.from, &env.body)?;
         self.memory.plan.send(alloc, sent.as_slice(), out)?;
         self.broken = false;
         Ok(())

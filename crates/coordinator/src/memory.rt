@@ -82,13 +82,19 @@ pub(crate) struct Course {
     pub(crate) fate: Fate,
 }
 
-// A prepared execution: its content, the votes, what the client proposed, and who accepted that.
+// What the client proposed in view 0, and who accepted it.
+#[derive(Debug, Drop)]
+pub(crate) struct Proposed {
+    pub(crate) choice: Choice,
+    pub(crate) accepts: List<u32>,
+}
+
+// A prepared execution: its content, the votes, and what the client proposed.
 #[derive(Debug, Drop)]
 pub(crate) struct Ballot {
     pub(crate) content: Content,
     pub(crate) tally: Tally,
-    pub(crate) proposal: Option<Choice>,
-    pub(crate) accepts: List<u32>,
+    pub(crate) proposal: Option<Proposed>,
 }
 
 // Between attempts; running, once a segment of this execution was given back or not; prepared.

@@ -108,7 +108,6 @@ impl Memory {
             content,
             tally: Tally::new(self.plan.rules.replicas.min(MAX_REPLICAS as u32)),
             proposal: None,
-            accepts: List::new(alloc),
         });
         Ok(sent)
     }

@@ -1,5 +1,5 @@
 -- What follows is what the definitions say.
-use Rattle.std.proofs.Common.{◌∙◌, sym, subst, ap}
+use Rattle.std.proofs.Common.{sym, subst}
 use Rattle.protocol.specs.Words.{Choice, ToCommit}
 use Rattle.protocol.specs.Client.Deciding.{conclude}
 use Rattle.coordinator.specs.Memory.{Takes}

@@ -6,5 +6,5 @@ use Rattle.coordinator.proofs.memory.Memory.prepare.Goals as goal
 pub returns : goal.returns
 returns c = λ g k given how s runs ends.
     stands_prepared g k c.args.self.now given how
-    (record { content = c.in_ok-content.content; tally = c.new.result; proposal = None; accepts = c.new-2.result }) c.args.sent c.push.new.self c.in_ok-copy.copy
-    s runs ends c.in_ok-content.ensures c.in_ok-copy.ensures (c.new.ensures ∙ ap (λ n. record { replicas = n; votes = [] }) c.min.ensures) refl c.new-2.ensures c.in_ok-push.ensures.ok
+    (record { content = c.in_ok-content.content; tally = c.new.result; proposal = None }) c.args.sent c.push.new.self c.in_ok-copy.copy
+    s runs ends c.in_ok-content.ensures c.in_ok-copy.ensures (c.new.ensures ∙ ap (λ n. record { replicas = n; votes = [] }) c.min.ensures) refl c.in_ok-push.ensures.ok

@@ -1,5 +1,5 @@
 -- A pending client waits; another may be ready.
-use Rattle.std.proofs.Common.{◌≡◌, ◌∙◌, sym, subst, true, false}
+use Rattle.std.proofs.Common.{◌≡◌, ◌∙◌, sym, subst}
 use Rattle.protocol.specs.Client.State.Phase.{Running}
 use Rattle.coordinator.proofs.SegmentLemmas.{runs_so}
 use Rattle.coordinator.proofs.FollowingLemmas.{idle_goes, idle_waits}

@@ -1,5 +1,5 @@
 -- The segment that was given back brings the turn of the definitions.
-use Rattle.std.proofs.Common.{◌≡◌, ◌∙◌, ◌++◌, Some, false, true, sym, subst, ap, refl}
+use Rattle.std.proofs.Common.{◌≡◌, ◌∙◌, ◌++◌, false, true, sym, subst, ap, refl}
 use Rattle.std.specs.Prelude.{is_none, ◌||◌, ◌&&◌, not, nat_lt}
 use Rattle.exec_log.specs.Log.{asked_by}
 use Rattle.protocol.specs.Client.State.{Turn}

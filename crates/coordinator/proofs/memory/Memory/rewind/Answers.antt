@@ -1,9 +1,8 @@
 -- The next execution runs again from there, or the client gives up.
-use Rattle.std.proofs.Common.{◌∙◌, ◌++◌, ◌∷◌, [], take, None, refl, sym, subst, ap}
+use Rattle.std.proofs.Common.{◌∙◌, ◌++◌, ◌∷◌, [], take, None, sym, subst, ap}
 use Rattle.protocol.specs.Client.Attempts.{bumped}
 use Rattle.protocol.specs.Client.Following.{rewind}
 use Rattle.coordinator.specs.Memory.{Takes, current}
-use Rattle.protocol.specs.Client.State.{Answer}
 use Rattle.coordinator.specs.declared.memory.Memory.{Memory}
 use Rattle.coordinator.proofs.SegmentLemmas.{runs_bare}
 use Rattle.coordinator.proofs.DecidingLemmas.{stands_rewound}

@@ -1,0 +1,12 @@
+-- A Note of the current version.
+use Rattle.std.proofs.Common.{◌∙◌, sym}
+use Rattle.coordinator.proofs.EnvelopeLemmas.{takes_not, takes_when}
+use Rattle.coordinator.proofs.memory.Memory.noted_running.Goals as goal
+
+pub returns-then-not-is_version : goal.returns-then-not-is_version
+returns-then-not-is_version c = λ g k pending given s runs.
+    takes_not g k c.args.self.now _ _ c.new.result s (sym (c.is_version.ensures g k s) ∙ c.if-not-is_version.true) c.new.ensures
+
+pub returns : goal.returns
+returns c = λ g k pending given s runs.
+    takes_when g k c.note_running.new.self _ _ c.in_ok-out.out (sym (c.is_version.ensures g k s) ∙ c.if-not-is_version.false) (c.in_ok-out.ensures g k pending given s runs)
