@@ -8,5 +8,6 @@ pub mod RisingLemmas
 pub mod SentBefore
 pub mod EnvelopesHaveFrames
 pub mod ScriptsAreWithinLimits
+pub mod SendableIsWithinLimits
 pub mod ViewsUsed
 pub mod ViewsAreLeft

@@ -42,10 +42,6 @@ rising_distinct name earlier itself (x ∷ xs) r = (
   rising_distinct name earlier itself xs r.1,
 )
 
-pub length_names : {A B : Type 0} (name : A → B) (xs : List A) → length (map name xs) ≡ length xs
-length_names name [] = refl
-length_names name (x ∷ xs) = ap suc (length_names name xs)
-
 -- lists of at most n elements each
 pub length_joined : {A B : Type 0} (f : A → List B) (n : ℕ) (xs : List A) → ((a : A) → IsIn a xs → length (f a) ≤ n) → length (flat_map f xs) ≤ n * length xs
 length_joined f n [] few = omega arith

@@ -2,6 +2,7 @@
 use Rattle.std.proofs.Common.{◌≡◌, ℕ, ◌<◌, ◌≤◌, ◌-◌, ◌⊎◌, inl, inr, refl, sym, ◌∙◌, subst, List, Option, Some, None, length, arith}
 use Rattle.std.specs.Prelude.{ℤ, map, option_map}
 use Rattle.std.specs.List.{All, slice_get}
+use Rattle.std.proofs.lemmas.List.{length-map}
 use Rattle.std.proofs.lemmas.Option.{slice_get-map, slice_get_cases}
 use Rattle.txn_lang.specs.Keys.{Entry}
 use Rattle.txn_lang.specs.Program.{replay_of}
@@ -12,15 +13,14 @@ use Rattle.protocol.specs.World.State.{rules, txns_of}
 use Rattle.protocol_plans.specs.Scripted.{write_of, Start, txn_of, Scripted, plan_of}
 use Rattle.protocol_plans.specs.Limits.{IsStart, IsClient, IsScript}
 use Rattle.law_frames.specs.Limits.{IsShortWalk, ScriptsAreWithinLimits}
-use Rattle.law_frames.proofs.ListsCounted.{length_names}
 
 nothing_short : IsShortWalk (walk_at None)
 nothing_short = record { keys = λ vs. omega arith; writes = λ vs. omega arith; out = λ vs. omega arith }
 
 program_short : (t : Start) → IsStart t → IsShortWalk (walk_at (Some (txn_of t)))
 program_short t s = record {
-  keys = λ vs. let l = (limited vs).reads in let n = length_names (λ (e : Entry). e.key) (replay_of t.program vs).reads in omega (arith, l, n);
-  writes = λ vs. let l = (limited vs).writes in let n = length_names write_of (replay_of t.program vs).writes in omega (arith, l, n);
+  keys = λ vs. let l = (limited vs).reads in let n = length-map (replay_of t.program vs).reads (λ (e : Entry). e.key) in omega (arith, l, n);
+  writes = λ vs. let l = (limited vs).writes in let n = length-map (replay_of t.program vs).writes write_of in omega (arith, l, n);
   out = λ vs. (limited vs).out;
 }
   where
@@ -57,7 +57,7 @@ module _ (s : Scripted) (k : IsScript s) where
 
 pub scripts_are_within_limits : ScriptsAreWithinLimits
 scripts_are_within_limits s k = record {
-  clients = let l = k.few_clients in let n = length_names (map txn_of) s.clients in omega (arith, l, n);
+  clients = let l = k.few_clients in let n = length-map s.clients (map txn_of) in omega (arith, l, n);
   some_replica = (some_replica s k k.replicas).0;
   replicas = (some_replica s k k.replicas).1;
   wardens = k.wardens;

@@ -2,7 +2,7 @@
 use Rattle.std.proofs.Common.{◌≡◌, ℕ, ◌<◌, ◌≤◌, ◌⊎◌, inl, inr, refl, sym, ◌∙◌, subst, List, [], ◌∷◌, ◌++◌, length, arith}
 use Rattle.std.specs.Prelude.{map, flat_map}
 use Rattle.std.specs.List.{All}
-use Rattle.std.proofs.lemmas.List.{append-nil}
+use Rattle.std.proofs.lemmas.List.{append-nil, length-map}
 use Rattle.std.proofs.lemmas.List.Elements.{All-nil, All-cons}
 use Rattle.morty_base.proofs.Orders.{exec_before_total}
 use Rattle.protocol.specs.Words.{Version, Exec, Key, Write, NodeId, Client, Replica, Warden, Envelope, Body, Content, Kept, BaseEntry, Prepare, Drops, exec_before, key_before}
@@ -26,7 +26,7 @@ use Rattle.law_steps.proofs.Senders.{prepare_from}
 use Rattle.law_safety.proofs.BaseEntries.{entry_write}
 use Rattle.law_safety.proofs.BaseOfDrop.{drop_base}
 use Rattle.law_safety.proofs.OneContent.{contents_reach}
-use Rattle.law_frames.proofs.ListsCounted.{distinct_within, rising_distinct, length_names, length_joined}
+use Rattle.law_frames.proofs.ListsCounted.{distinct_within, rising_distinct, length_joined}
 use Rattle.law_frames.proofs.RisingLemmas.{rises}
 use Rattle.law_frames.proofs.KeptRising.{IsRisingByExec}
 
@@ -72,7 +72,7 @@ module _ (w : World) (room : length w.mail < mail_limit) where
       (rising_distinct (λ (k : Kept). k.exec) exec_before exec_before_total.irreflexive cs rising)
       (λ x i. let k = IsIn-map (λ (k : Kept). k.exec) x cs i in
       subst (λ (y : Exec). IsIn y (prepared_execs w)) (sym k.2) (prepared_exec w k.0.exec k.0.content (prepared k.0 k.1))) in
-      let n = length_names (λ (k : Kept). k.exec) cs in
+      let n = length-map cs (λ (k : Kept). k.exec) in
       let m = length_joined (λ (m : Envelope). execs_in m.body) 1 w.mail (λ m i. execs_few m.body) in
       record { count = omega (arith, l, n, m, room); rising = rises _ cs rising; short = all_of _ cs short }
 
@@ -83,7 +83,7 @@ module _ (w : World) (room : length w.mail < mail_limit) where
       let l = distinct_within (map (λ (d : BaseEntry). d.key) bs) (prepared_keys w)
       (rising_distinct (λ (d : BaseEntry). d.key) key_before key_irreflexive bs rising)
       (λ x i. let k = IsIn-map (λ (d : BaseEntry). d.key) x bs i in subst (λ (y : Key). IsIn y (prepared_keys w)) (sym k.2) (prepared k.0 k.1)) in
-      let n = length_names (λ (d : BaseEntry). d.key) bs in
+      let n = length-map bs (λ (d : BaseEntry). d.key) in
       let m = length_joined (λ (m : Envelope). keys_in m.body) most_short w.mail short in
       record { count = omega (arith, l, n, m, room); rising = rises _ bs rising }
 
@@ -91,7 +91,7 @@ pub keys_few : (m : Envelope) → MaySend m → length (keys_in m.body) ≤ most
 keys_few m s = go m.body s.body
   where
     go : (b : Body) → IsFit b → length (keys_in b) ≤ most_short
-    go (Prepare x k) f = let n = length_names (λ (w : Write). w.key) k.writes in let l = f.writes in omega (arith, n, l)
+    go (Prepare x k) f = let n = length-map k.writes (λ (w : Write). w.key) in let l = f.writes in omega (arith, n, l)
     go _ f = omega arith
 
 -- ---- a step

@@ -1,6 +1,7 @@
 -- A warden asked in each of its views, so it has used few of them as long as the mail has room; then nothing moves it.
 use Rattle.std.proofs.Common.{sym, subst, ◌≡◌, ℕ, ◌+◌, ◌*◌, ◌<◌, ◌≤◌, refl, ap, true, false, Bool, cond, List, [], ◌∷◌, length, arith, length-append}
 use Rattle.std.specs.Prelude.{zero, suc, map, flat_map, ◌&&◌, ◌==◌}
+use Rattle.std.proofs.lemmas.List.{length-map}
 use Rattle.std.proofs.Math.Nat.{mul-le-mul_right}
 use Rattle.protocol.specs.Words.{Event, Exec, NodeId, Replica, Warden, Envelope, Body, Ask, same_exec}
 use Rattle.protocol.specs.Lists.{upto}
@@ -24,7 +25,6 @@ use Rattle.law_steps.proofs.Reach.From.{Begins, Next}
 use Rattle.law_steps.proofs.WardenFacts.{wardens_range}
 use Rattle.law_frames.specs.Limits.{PlanIsWithinLimits}
 use Rattle.law_frames.specs.Handling.{ViewsAreLeft, ViewsAreLeftOf}
-use Rattle.law_frames.proofs.ListsCounted.{length_names}
 use Rattle.law_frames.proofs.ViewsUsed.{step_used}
 
 used_few : (x : Exec) (rounds : List Round) → used x rounds ≤ length rounds
@@ -48,7 +48,7 @@ some_sent : (n : ℕ) (node : NodeId) (b : Body) → 0 < n → 0 < length (flat_
 some_sent zero node b l = absurd (omega (arith, l))
 some_sent (suc n) node b l =
     let f : ℕ → Envelope = λ r. record { from = node; to = Replica r; body = b } in
-    let named = length_names f (upto (suc n)) in
+    let named = length-map (upto (suc n)) f in
     let one = length-append (upto n) (suc n ∷ []) in
     let whole = length-append (map f (upto (suc n))) [] in
     omega (arith, named, one, whole)

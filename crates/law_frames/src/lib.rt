@@ -10,11 +10,11 @@
 //! while that still had room (`SentBefore`). By these each step sends what has a frame, if all that was sent before it has
 //! (`EnvelopesHaveFrames`). The plan of each script is within the limits (`ScriptsAreWithinLimits`), and a warden, which
 //! uses at most one view of an execution in a step (`ViewsUsed`), has used no more than the mail has room for
-//! (`ViewsAreLeft`).
+//! (`ViewsAreLeft`). Whatever has a frame, a replica can handle (`SendableIsWithinLimits`).
 #![tactic(auto)]
 
 ghost use Rattle.law_frames.specs.Frames.{EnvelopesHaveFrames};
-ghost use Rattle.law_frames.specs.Handling.{ViewsAreLeft};
+ghost use Rattle.law_frames.specs.Handling.{SendableIsWithinLimits, ViewsAreLeft};
 ghost use Rattle.law_frames.specs.Limits.{ScriptsAreWithinLimits};
 
 /// Each envelope that was sent has a frame, and so has each that an event would send where the mail has room.
@@ -25,6 +25,11 @@ pub fn envelopes_have_frames()
 /// The plan of a script within its limits is within those that the laws of frames ask for.
 pub fn scripts_are_within_limits()
     ensures { ScriptsAreWithinLimits }
+{}
+
+/// A replica can handle whatever has a frame.
+pub fn sendable_is_within_limits()
+    ensures { SendableIsWithinLimits }
 {}
 
 /// A warden has a view left for each execution, whatever happens.
