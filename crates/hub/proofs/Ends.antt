@@ -1,5 +1,6 @@
 -- How a run ends, and what one more event makes of marks, turns and counts.
-use Rattle.std.proofs.Common.{◌≡◌, ◌≢◌, ℕ, suc, zero, ◌+◌, ◌-◌, ◌^◌, ◌≤◌, min, Bool, true, false, cond, not, ◌&&◌, ◌||◌, List, [], ◌∷◌, length, replicate, set, map, Option, Some, None, refl, sym, ◌∙◌, ap, arith, inl, inr}
+use Rattle.std.proofs.Common.{◌≡◌, ◌≢◌, ℕ, suc, zero, ◌+◌, ◌-◌, ◌^◌, ◌≤◌, min, Bool, true, false, cond, not, ◌&&◌, ◌||◌}
+use Rattle.std.proofs.Common.{List, [], ◌∷◌, length, replicate, set, map, Option, Some, None, refl, sym, ◌∙◌, ap, arith, inl, inr}
 use Rattle.std.proofs.lemmas.List.{length-map}
 use Rattle.std.proofs.lemmas.List.Sums.{sum_by-cons}
 use Rattle.std.specs.Prelude.{nat_le, slice_set, slice_index, count_by}
@@ -30,7 +31,10 @@ ends_quiet m turns h full quiet = let out = list_any (is_out_of_turns m turns h)
 
 any_at : {A : Type 0} (p : A → Bool) (xs : List A) (k : ℕ) (a : A) → slice_get xs k ≡ Some a → p a ≡ true → list_any p xs ≡ true
 any_at {A} p [] k a e h = absurd (let t : ◌≡◌ {A = Option A} None (Some a) = e in cc)
-any_at {A} p (x ∷ xs) zero a e h = let t : ◌≡◌ {A = Option A} (Some x) (Some a) = e in let same : x ≡ a = cc in ap (λ b. b || list_any p xs) (ap p same ∙ h)
+any_at {A} p (x ∷ xs) zero a e h =
+    let t : ◌≡◌ {A = Option A} (Some x) (Some a) = e in
+    let same : x ≡ a = cc in
+    ap (λ b. b || list_any p xs) (ap p same ∙ h)
 any_at p (x ∷ xs) (suc k) a e h = right (p x) (list_any p xs) (any_at p xs k a e h)
   where
     right : (a b : Bool) → b ≡ true → (a || b) ≡ true
@@ -72,7 +76,8 @@ set_map {A} f g v (x ∷ xs) zero a e at others =
     let same : x ≡ a = cc in
     (λ i. sym (ap g same ∙ at) i ∷ map_ext f g xs (λ j b eq. others (suc j) b eq (λ z. absurd (omega arith))) i)
 set_map f g v (x ∷ xs) (suc k) a e at others =
-    (λ i. sym (others 0 x refl (λ z. absurd (omega arith))) i ∷ set_map f g v xs k a e at (λ j b eq ne. others (suc j) b eq (λ z. ne (omega arith))) i)
+    (λ i. sym (others 0 x refl (λ z. absurd (omega arith))) i
+    ∷ set_map f g v xs k a e at (λ j b eq ne. others (suc j) b eq (λ z. ne (omega arith))) i)
 
 or_false : (a b : Bool) → a ≡ false → (a || b) ≡ b
 or_false a b e = ap (λ c. c || b) e
@@ -82,7 +87,8 @@ and_not_false a b e = ap (λ c. not c && b) e
 
 -- the marks after a pick of the node of a slot
 pub marks_pick : (m : Machine) (h : History) (n : NodeId) (p : Pick) (nodes : List NodeId) (slot : ℕ) (f : Effect) → m.effect h (Picked n p) ≡ f
-    → same_node n n ≡ true → slice_get nodes slot ≡ Some n → OthersDiffer nodes slot n → marks_after slot (out_of f) (map (is_marked m h) nodes) ≡ map (is_marked m (Picked n p ∷ h)) nodes
+    → same_node n n ≡ true → slice_get nodes slot ≡ Some n → OthersDiffer nodes slot n
+    → marks_after slot (out_of f) (map (is_marked m h) nodes) ≡ map (is_marked m (Picked n p ∷ h)) nodes
 marks_pick m h n p nodes slot Moves is own here others =
     ap (λ k. replicate k false) (length-map nodes (is_marked m h))
     ∙ map_same false nodes ∙ ap (λ f. map (λ k. mark_after k (Picked n p) f (is_marked m h k)) nodes) (sym is)
@@ -114,12 +120,13 @@ at_map {A} f [] k a e = absurd (let t : ◌≡◌ {A = Option A} None (Some a) =
 at_map {A} f (x ∷ xs) zero a e = let t : ◌≡◌ {A = Option A} (Some x) (Some a) = e in let same : x ≡ a = cc in ap f same
 at_map f (x ∷ xs) (suc k) a e = at_map f xs k a e
 
-count_step : (p : Pick) (xs : List Pick) → count_by is_turn (p ∷ xs) ≡ cond (is_turn p) (count_by is_turn xs + 1) (count_by is_turn xs)
+pub count_step : (p : Pick) (xs : List Pick) → count_by is_turn (p ∷ xs) ≡ cond (is_turn p) (count_by is_turn xs + 1) (count_by is_turn xs)
 count_step p xs =
     sum_by-cons (λ x. cond (is_turn x) 1 0) p xs
-    ∙ elim (is_turn p) as (λ b. cond b 1 0 + count_by is_turn xs ≡ cond b (count_by is_turn xs + 1) (count_by is_turn xs)) [ true ↦ omega arith | false ↦ omega arith ]
+    ∙ elim (is_turn p) as (λ b. cond b 1 0 + count_by is_turn xs ≡ cond b (count_by is_turn xs + 1) (count_by is_turn xs))
+    [ true ↦ omega arith | false ↦ omega arith ]
 
-turns_own : (h : History) (n : NodeId) (p : Pick) (b : Bool) → is_turn p ≡ b → same_node n n ≡ true →
+pub turns_own : (h : History) (n : NodeId) (p : Pick) (b : Bool) → is_turn p ≡ b → same_node n n ≡ true →
     turns_made n (Picked n p ∷ h) ≡ cond b (turns_made n h + 1) (turns_made n h)
 turns_own h n p b is own =
     ap (λ t. count_by is_turn (cond t (p ∷ picks n h) (picks n h))) own
@@ -148,7 +155,8 @@ turns_by h n p nodes slot false is own here others room =
         let same : x ≡ a = cc in
         (λ i. (ap f same ∙ sym at ∙ sym (ap g same)) i ∷ map_ext f g xs (λ j b eq. others (suc j) b eq (λ z. absurd (omega arith))) i)
     map_at f g (x ∷ xs) (suc k) a e at others =
-        (λ i. sym (others 0 x refl (λ z. absurd (omega arith))) i ∷ map_at f g xs k a e at (λ j b eq ne. others (suc j) b eq (λ z. ne (omega arith))) i)
+        (λ i. sym (others 0 x refl (λ z. absurd (omega arith))) i
+        ∷ map_at f g xs k a e at (λ j b eq ne. others (suc j) b eq (λ z. ne (omega arith))) i)
 
 -- the turns made after a pick of the node of a slot
 pub turns_pick : (h : History) (n : NodeId) (p : Pick) (nodes : List NodeId) (slot : ℕ)

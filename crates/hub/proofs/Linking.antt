@@ -1,5 +1,6 @@
 -- A link after one more event.
-use Rattle.std.proofs.Common.{◌≡◌, ◌≢◌, ℕ, suc, zero, Bool, true, false, cond, List, [], ◌∷◌, ◌++◌, Option, Some, None, is_some, refl, sym, ◌∙◌, ap, subst, arith, append-nil, length}
+use Rattle.std.proofs.Common.{◌≡◌, ◌≢◌, ℕ, suc, zero, Bool, true, false, cond, List, [], ◌∷◌}
+use Rattle.std.proofs.Common.{◌++◌, Option, Some, None, is_some, refl, sym, ◌∙◌, ap, subst, arith, append-nil, length}
 use Rattle.std.specs.Prelude.{reverse, slice_set}
 use Rattle.std.specs.Option.{option_map}
 use Rattle.std.specs.List.{slice_get}

@@ -1,5 +1,6 @@
 -- What a turn of a node answers and does, and what giving a segment back does.
-use Rattle.std.specs.Prelude.{◌≡◌, ◌≢◌, ℕ, Bool, true, false, cond, nat_le, List, [], ◌∷◌, ◌++◌, ◌+◌, ◌-◌, ◌^◌, length, replicate, min, slice_set, slice_index, Option, Some, None}
+use Rattle.std.specs.Prelude.{◌≡◌, ◌≢◌, ℕ, ◌+◌, ◌-◌, ◌^◌, min, Bool, true, false, cond, nat_le}
+use Rattle.std.specs.Prelude.{List, [], ◌∷◌, ◌++◌, length, replicate, slice_set, slice_index, Option, Some, None}
 use Rattle.std.specs.List.{slice_get}
 use Rattle.morty_base.specs.declared.names.NodeId.{NodeId}
 use Rattle.morty_base.specs.declared.names.Ended.{Ended}
@@ -78,14 +79,16 @@ Does m n slot old new out TurnCase.Spent = (out ≡ TurnOut.Spent) × (new ≡ r
 Does m n slot old new out TurnCase.Ask = Asked m n old new out
 
 -- a turn of the node of a slot
-pub record IsTurn {J : Type 0} (m : Machine) (jobs : History → NodeId → Option J) (turns : ℕ) (n : NodeId) (slot : ℕ) (old new : HubView J) (out : TurnOut J) : Type 0 where
+pub record IsTurn {J : Type 0} (m : Machine) (jobs : History → NodeId → Option J) (turns : ℕ) (n : NodeId) (slot : ℕ)
+    (old new : HubView J) (out : TurnOut J) : Type 0 where
   pub case : TurnCase J
   pub is_case : IsCase m jobs turns n slot old case
   pub does : Does m n slot old new out case
 
 -- giving a segment back: a stale one changes nothing; one that is used is recorded, and no job of the slot counts as handed
 -- out; and one that the full mail refuses is recorded, and ends the run
-abbrev pub Gave : {J : Type 0} → Machine → (History → NodeId → Option J) → (J → Type 0) → NodeId → ℕ → HubView J → HubView J → RanStep → Type 0
+abbrev pub Gave : {J : Type 0} → Machine → (History → NodeId → Option J) → (J → Type 0) → NodeId → ℕ → HubView J → HubView J → RanStep →
+    Type 0
 Gave {J} m jobs of_job n slot old new Stale = ((j : J) → IsDue m jobs (history old) n j → ¬ of_job j) × (new ≡ old)
 Gave m jobs of_job n slot old new Used =
     (c : ℕ) × IsTaken m jobs of_job (history old) n Moves c

@@ -1,5 +1,5 @@
 -- What callers see of a hub.
-use Rattle.std.specs.Prelude.{◌≡◌, ℕ, Bool, false, cond, List, Option, Some, None, reverse}
+use Rattle.std.specs.Prelude.{◌≡◌, ℕ, Bool, false, cond, List, [], replicate, Option, Some, None, reverse}
 use Rattle.std.specs.List.{slice_get}
 use Rattle.morty_base.specs.declared.names.NodeId.{NodeId}
 use Rattle.morty_base.specs.declared.names.Ended.{Ended}
@@ -18,6 +18,10 @@ pub record HubView (J : Type 0) : Type 0 where
   pub spoiled : Bool
   pub broken : Bool
 
+-- a hub whose run has not begun
+abbrev pub first_view : {J : Type 0} → ℕ → HubView J
+first_view nodes = record { nodes = nodes; journal = []; handed = replicate nodes None; ended = None; spoiled = false; broken = false }
+
 -- the events so far, the newest first
 abbrev pub history : {J : Type 0} → HubView J → History
 history v = reverse v.journal
@@ -28,4 +32,5 @@ told_end v = cond v.spoiled None v.ended
 
 -- of a run that was not broken, with its start and the node of a slot
 abbrev pub AtNode : {O J : Type 0} → Option (Start O) → (O → Machine) → HubView J → ℕ → (Start O → NodeId → Type 0) → Type 0
-AtNode {O} start rules v slot P = v.broken ≡ false → (s : Start O) (n : NodeId) → start ≡ Some s → slice_get (rules s.origin).nodes slot ≡ Some n → P s n
+AtNode {O} start rules v slot P =
+    v.broken ≡ false → (s : Start O) (n : NodeId) → start ≡ Some s → slice_get (rules s.origin).nodes slot ≡ Some n → P s n

@@ -1,10 +1,11 @@
-ghost use Rattle.std.specs.Prelude.{◌≡◌, ◌<◌, ◌^◌, Bool, true, false, List, [], ◌∷◌, ◌++◌, slice_get, slice_set, length, reverse, map, replicate, nat_le, Option, Some, None, Ok, IfOk, OnOk, OnErr, IsErr, IfSome, IsSome, MatchOption};
+ghost use Rattle.std.specs.Prelude.{◌≡◌, ◌<◌, true, false, [], length, reverse, map, replicate, nat_le, slice_get, slice_set, Some, None, Ok};
+ghost use Rattle.std.specs.Prelude.{IfOk, OnOk, OnErr, IsErr, IfSome, IsSome, MatchOption};
 ghost use Rattle.morty_base.specs.declared.names.NodeId.{NodeId as NodeValue};
 ghost use Rattle.net_core.specs.Machine.{History};
 ghost use Rattle.net_core.specs.Marks.{rests, is_quiet, is_full, is_marked, turns_made, end_of};
 ghost use Rattle.net_core.specs.declared.machine.RanStep.TheVariants.{Stale};
 ghost use Rattle.hub.specs.Starts.{Start, IsRun};
-ghost use Rattle.hub.specs.Views.{HubView, history, told_end, AtNode};
+ghost use Rattle.hub.specs.Views.{HubView, first_view, history, told_end, AtNode};
 ghost use Rattle.hub.specs.Turns.{IsTurn, IsLeft, IsCase, NoneLeft, Asked, Does, Gave};
 ghost use Rattle.hub.specs.Kept.{picks_in, rans_in};
 
@@ -50,14 +51,22 @@ impl<M: Machine, L: Link, N: Named<M::Origin>> Model for Hub<M, L, N> {
 
     ghost Value = { HubView M.Job };
 
-    ghost view = { λ h. record { nodes = length h.links.items; journal = h.journal.items; handed = h.handed.items; ended = h.ended; spoiled = h.spoiled; broken = h.broken } };
+    ghost view = { λ h. record {
+      nodes = length h.links.items;
+      journal = h.journal.items;
+      handed = h.handed.items;
+      ended = h.ended;
+      spoiled = h.spoiled;
+      broken = h.broken;
+    } };
 
     ghost invariant = { λ h. HasRooms (M.count h.machine) (length h.links.items) (length h.handed.items) (length h.marks.items) (length h.made.items)
         × (h.picked ≡ picks_in (reverse h.journal.items))
         × ((s : Start M.Origin) → N.start ≡ Some s → IsNoted (M.rules s.origin) s.turns (reverse h.journal.items) h.used h.ended)
         × (h.broken ≡ false → (s : Start M.Origin) → N.start ≡ Some s
         → IsKept M.rules (M.stands h.machine) s (reverse h.journal.items) (map L.state_of h.links.items) h.turns h.marks.items h.made.items h.ended)
-        × (h.spoiled ≡ false → h.broken ≡ false) };
+        × (h.spoiled ≡ false → h.broken ≡ false)
+        × ((s : Start M.Origin) → N.start ≡ Some s → length h.links.items ≡ length (M.rules s.origin).nodes) };
 }
 
 impl<M: Machine, L: Link, N: Named<M::Origin>> Hub<M, L, N> {
@@ -70,7 +79,7 @@ impl<M: Machine, L: Link, N: Named<M::Origin>> Hub<M, L, N> {
     ) -> Result<Hub<M, L, N>, NoMemory>
         requires links { length links.items ≡ M.count machine }
         requires start { (s : Start M.Origin) → N.start ≡ Some s → M.stands machine s.origin [] × (s.turns ≡ turns) × (s.links ≡ map L.state_of links.items) }
-        ensures { IfOk result (λ h. h ≡ record { nodes = length links.items; journal = []; handed = replicate (length links.items) None; ended = None; spoiled = false; broken = false }) }
+        ensures { IfOk result (λ h. h ≡ first_view (length links.items)) }
     {
         let nodes = machine.nodes() as usize;
         let marks = falses(alloc, nodes)?;
@@ -97,7 +106,8 @@ impl<M: Machine, L: Link, N: Named<M::Origin>> Hub<M, L, N> {
     /// The machine, the journal and the links. All that the hub kept of them is a fact about these three.
     pub fn into_parts(self) -> (M, Vec<Event>, Vec<L>)
         ensures journal { result.1.items ≡ self.journal }
-        ensures run { self.broken ≡ false → (s : Start M.Origin) → N.start ≡ Some s → IsRun M.rules (M.stands result.0) s (reverse result.1.items) (map L.state_of result.2.items) }
+        ensures run { self.broken ≡ false → (s : Start M.Origin) → N.start ≡ Some s
+            → IsRun M.rules (M.stands result.0) s (reverse result.1.items) (map L.state_of result.2.items) }
     {
         let Hub {
             machine,
@@ -110,7 +120,8 @@ impl<M: Machine, L: Link, N: Named<M::Origin>> Hub<M, L, N> {
 
     /// The number of nodes.
     pub fn nodes(&self) -> u32
-        ensures { result ≡ self.now.nodes }
+        ensures told { result ≡ self.now.nodes }
+        ensures machine { (s : Start M.Origin) → N.start ≡ Some s → result ≡ length (M.rules s.origin).nodes }
     {
         self.machine.nodes()
     }
@@ -147,7 +158,7 @@ impl<M: Machine, L: Link, N: Named<M::Origin>> Hub<M, L, N> {
 
     /// Every pending job counts as not handed out.
     pub fn recall(&mut self)
-        ensures { self.new ≡ record self.old { handed = replicate (length self.old.handed) None } }
+        ensures { self.new ≡ record self.old { handed = replicate self.old.nodes None } }
     {
         forget(&mut self.handed);
     }
@@ -181,7 +192,8 @@ impl<M: Machine, L: Link, N: Named<M::Origin>> Hub<M, L, N> {
     pub fn give(&mut self, slot: u32, done: &M::Done) -> Result<RanStep, NoMemory>
         requires { slot < self.old.nodes }
         ensures over { IsSome self.old.ended → (result ≡ Ok Stale) × (self.new ≡ self.old) }
-        ensures ok { IfOk result (λ out. self.old.ended ≡ None → (s : Start M.Origin) → N.start ≡ Some s → (n : NodeValue) × (slice_get (M.rules s.origin).nodes slot ≡ Some n)
+        ensures ok { IfOk result (λ out. self.old.ended ≡ None → (s : Start M.Origin) → N.start ≡ Some s
+            → (n : NodeValue) × (slice_get (M.rules s.origin).nodes slot ≡ Some n)
             × Gave (M.rules s.origin) (M.jobs s.origin) (λ j. M.of_job s.origin j done.now) n slot self.old self.new out) }
         ensures err { OnErr result (self.new ≡ record self.old { spoiled = true; broken = self.new.broken }) }
         ensures nodes { self.new.nodes ≡ self.old.nodes }
@@ -267,7 +279,8 @@ impl<M: Machine, L: Link, N: Named<M::Origin>> Hub<M, L, N> {
     fn job_left(&self, slot: u32) -> Result<Option<M::Job>, NoMemory>
         requires { slot < self.now.nodes }
         ensures { IfOk result (λ o. AtNode N.start M.rules self.now slot (λ s n.
-            MatchOption o (NoneLeft (M.jobs s.origin (history self.now) n) self.now.handed slot) (IsLeft (M.jobs s.origin (history self.now) n) self.now.handed slot))) }
+            MatchOption o (NoneLeft (M.jobs s.origin (history self.now) n) self.now.handed slot)
+            (IsLeft (M.jobs s.origin (history self.now) n) self.now.handed slot))) }
     {
         let Some(job) = self.machine.job(self.alloc, slot)? else {
             return Ok(None);
@@ -345,7 +358,8 @@ impl<M: Machine, L: Link, N: Named<M::Origin>> Hub<M, L, N> {
     fn end(&mut self, ended: Ended)
         requires whole { self.old.broken ≡ false }
         requires running { (s : Start M.Origin) → N.start ≡ Some s → self.old.ended ≡ None }
-        requires end { (s : Start M.Origin) → N.start ≡ Some s → is_full (M.rules s.origin) (history self.old) ≡ false → end_of (M.rules s.origin) s.turns (history self.old) ≡ Some ended }
+        requires end { (s : Start M.Origin) → N.start ≡ Some s → is_full (M.rules s.origin) (history self.old) ≡ false
+            → end_of (M.rules s.origin) s.turns (history self.old) ≡ Some ended }
         ensures { self.new ≡ record self.old { ended = Some ended } }
     {
         self.ended = Some(ended);
@@ -354,7 +368,8 @@ impl<M: Machine, L: Link, N: Named<M::Origin>> Hub<M, L, N> {
     // Remembers the pending job as handed out.
     fn hand_out(&mut self, slot: u32) -> Result<(), NoMemory>
         requires { slot < self.old.nodes }
-        ensures ok { OnOk result (AtNode N.start M.rules self.old slot (λ s n. self.new ≡ record self.old { handed = slice_set self.old.handed slot (M.jobs s.origin (history self.old) n) })) }
+        ensures ok { OnOk result (AtNode N.start M.rules self.old slot (λ s n.
+            self.new ≡ record self.old { handed = slice_set self.old.handed slot (M.jobs s.origin (history self.old) n) })) }
         ensures err { OnErr result (self.new ≡ self.old) }
         ensures nodes { self.new.nodes ≡ self.old.nodes }
     {

@@ -4,4 +4,5 @@ use Rattle.hub.proofs.rooms.forget.Goals as goal
 
 pub returns : goal.returns
 returns g c =
-    is_replicate None c.loop-at.handed.items (λ k lt. c.loop-at.invariant.1 k (let same = c.loop-at.invariant.0 in search rules)) ∙ ap (λ n. replicate n None) c.loop-at.invariant.0
+    is_replicate None c.loop-at.handed.items (λ k lt. c.loop-at.invariant.1 k (let same = c.loop-at.invariant.0 in search rules))
+    ∙ ap (λ n. replicate n None) c.loop-at.invariant.0

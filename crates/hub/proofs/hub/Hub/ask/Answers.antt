@@ -66,6 +66,7 @@ invariant_of-self-2 g c =
             not_full = λ none. not_full_by m h (Picked n p) _ refl (sym (c.ended_by-self-inside.ensures _ step.1) ∙ none);
           }),
       λ _. refl,
+      λ s is. c.in_ok-pick.ensures.count ∙ c.self.invariant.5 s is,
     )
 
 pub returns-clause-ok : goal.returns-clause-ok

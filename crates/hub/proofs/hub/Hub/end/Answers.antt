@@ -23,4 +23,5 @@ invariant_of-self g c =
             not_full = λ none. absurd (let t : ◌≡◌ {A = Option Ended} (Some c.args.ended) None = none in cc);
           },
       c.self.invariant.4,
+      c.self.invariant.5,
     )

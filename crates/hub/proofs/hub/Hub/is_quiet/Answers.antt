@@ -11,9 +11,10 @@ returns-then-not-rests g c = λ whole s is.
     let kept = c.self.invariant.3 whole' s is in
     let nodes = (g.M.Machine.rules s.origin).nodes in
     let count = g.met.M.Machine.counted c.self.inside.machine s.origin (reverse c.self.inside.journal.items) kept.run.replay in
-    let lt : c.loop-slot.slot < length nodes = omega (arith, c.self.invariant.0.nodes_are, count, c.loop-slot-test.true, c.loop-slot.auto, c.len-nodes.ensures) in
+    let lt : c.loop-slot.slot < length nodes = omega (arith, c.self.invariant.0.nodes_are, count, c.loop-slot-test.true, c.len-nodes.ensures) in
     let there = get_there nodes c.loop-slot.slot lt in
-    sym (all_fails (rests (g.M.Machine.rules s.origin) (history c.args.self.now)) nodes c.loop-slot.slot there.0 there.1 (let r = c.rests.ensures whole s there.0 is there.1 in search rules))
+    sym (all_fails (rests (g.M.Machine.rules s.origin) (history c.args.self.now)) nodes c.loop-slot.slot there.0 there.1
+    (let r = c.rests.ensures whole s there.0 is there.1 in search rules))
 
 pub returns : goal.returns
 returns g c = λ whole s is.

@@ -38,4 +38,5 @@ invariant_of-result g c =
             not_full = λ none. refl;
           },
       λ whole. refl,
+      λ s is. sym counts ∙ c.nodes-nodes.ensures ∙ g.met.M.Machine.counted c.args.machine s.origin [] (c.requires.start s is).0,
     ))

@@ -35,7 +35,8 @@ invariant_of-self-2 g c =
           omega arith) in
           rw (c.note_ran.ensures, c.in_ok-reserve.ensures.items, c.used_after-self-inside.ensures, c.ended_given-self-inside.ensures)
           (given_noted m s.turns (g.M.Machine.jobs s.origin) (λ j. g.M.Machine.of_job s.origin j c.args.done.now)
-          (g.M.Machine.stands c.give.new.self s.origin) events c.self.inside.used n c.client_of-client.result c.in_ok-out.out noted given c.client_of-client.ensures room),
+          (g.M.Machine.stands c.give.new.self s.origin) events c.self.inside.used n c.client_of-client.result
+          c.in_ok-out.out noted given c.client_of-client.ensures room),
       λ _ s is.
           let kept = rw running at c.self.invariant.3 whole s is in
           let given = c.in_ok-out.ensures.given s.origin (reverse events) n kept.run.replay (c.node-node.ensures c.requires.whole s is) in
@@ -44,6 +45,7 @@ invariant_of-self-2 g c =
           (g.M.Machine.stands c.self.inside.machine) (g.M.Machine.stands c.give.new.self) s events _ _ _ _ n c.client_of-client.result c.in_ok-out.out
           kept given c.client_of-client.ensures),
       λ _. refl,
+      c.self.invariant.5,
     )
 
 pub returns-clause-ok : goal.returns-clause-ok
