@@ -17,10 +17,12 @@ use Rattle.coordinator.proofs.DecidingLemmas.{stands_ended, stands_noted}
 
 -- ---- where a test holds
 
-pub takes_not : (g : Given) (c : ClientState) (m : Memory) (t : Turn) (b : Bool) (out : List Body) → StandsFor g c m → b ≡ false → out ≡ [] → Takes g (turn_when b c t) m out
+pub takes_not : (g : Given) (c : ClientState) (m : Memory) (t : Turn) (b : Bool) (out : List Body) → StandsFor g c m → b ≡ false → out ≡ [] →
+    Takes g (turn_when b c t) m out
 takes_not g c m t b out s fails is = rw fails (record { state = s; sent = is })
 
-pub takes_when : (g : Given) (c : ClientState) (m' : Memory) (t : Turn) (b : Bool) (out : List Body) → b ≡ true → Takes g t m' out → Takes g (turn_when b c t) m' out
+pub takes_when : (g : Given) (c : ClientState) (m' : Memory) (t : Turn) (b : Bool) (out : List Body) → b ≡ true → Takes g t m' out →
+    Takes g (turn_when b c t) m' out
 takes_when g c m' t b out holds takes = rw holds takes
 
 -- ---- what no rule names
@@ -35,13 +37,15 @@ running_else r c p from (TooOld version dropped) note old decide = absurd (old v
 running_else r c p from (Decide x choice content) note old decide = absurd (decide x choice content refl)
 running_else r c p from _ note old decide = refl
 
-pub prepared_else : (r : protocol.Rules) (c : ClientState) (k : Content) (votes : List CountedVote) (proposal : Option Choice) (accepts : List ℕ) (from : NodeId) (b : Body) →
+pub prepared_else : (r : protocol.Rules) (c : ClientState) (k : Content) (votes : List CountedVote) (proposal : Option Choice) (accepts : List ℕ)
+    (from : NodeId) (b : Body) →
     ((version : Version) (k : Key) (wid : Wid) (value : ℤ) (sure : Bool) (gone : Option Wid) → b ≡ Note version k wid value sure gone → ⊥) →
     ((x : Exec) (choice : Choice) (content : Option Content) → b ≡ Decide x choice content → ⊥) →
     ((x : Exec) (vote : Vote) → b ≡ Voted x vote → ⊥) → ((x : Exec) (view : ℕ) → b ≡ Accepted x view → ⊥) →
     comes_prepared r c k votes proposal accepts from b ≡ idle c
 unfolding comes_prepared
-prepared_else r c k votes proposal accepts from (Note version key wid value sure gone) note decide vote accept = absurd (note version key wid value sure gone refl)
+prepared_else r c k votes proposal accepts from (Note version key wid value sure gone) note decide vote accept =
+    absurd (note version key wid value sure gone refl)
 prepared_else r c k votes proposal accepts from (Decide x choice content) note decide vote accept = absurd (decide x choice content refl)
 prepared_else r c k votes proposal accepts from (Voted x v) note decide vote accept = absurd (vote x v refl)
 prepared_else r c k votes proposal accepts from (Accepted x view) note decide vote accept = absurd (accept x view refl)
@@ -59,7 +63,8 @@ tells g c m Abandon out s is = record { state = stands_ended g (noted c Abandon)
 
 -- ---- by stage
 
-pub comes_between : (g : Given) (c : ClientState) (m : Memory) (from : NodeId) (b : Body) (out : List Body) → StandsFor g c m → m.stage ≡ stage.Between → out ≡ [] →
+pub comes_between : (g : Given) (c : ClientState) (m : Memory) (from : NodeId) (b : Body) (out : List Body) → StandsFor g c m → m.stage ≡ stage.Between →
+    out ≡ [] →
     Takes g (comes g.rules c c.phase from b) m out
 unfolding comes
 comes_between g c m from b out s at is =
@@ -73,13 +78,15 @@ pub comes_while_running : (g : Given) (c : ClientState) (m' : Memory) (p q : Boo
 unfolding comes
 comes_while_running g c m' p q from b out runs takes = subst (λ x. Takes g (comes g.rules c x from b) m' out) (sym runs) takes
 
-pub comes_while_prepared : (g : Given) (c : ClientState) (m' : Memory) (content : Content) (votes : List CountedVote) (proposal : Option Choice) (accepts : List ℕ) (from : NodeId) (b : Body) (out : List Body) →
+pub comes_while_prepared : (g : Given) (c : ClientState) (m' : Memory) (content : Content) (votes : List CountedVote) (proposal : Option Choice)
+    (accepts : List ℕ) (from : NodeId) (b : Body) (out : List Body) →
     c.phase ≡ Prepared content votes proposal accepts →
     Takes g (comes_prepared g.rules c content votes proposal accepts from b) m' out → Takes g (comes g.rules c c.phase from b) m' out
 unfolding comes
 comes_while_prepared g c m' content votes proposal accepts from b out is takes = subst (λ x. Takes g (comes g.rules c x from b) m' out) (sym is) takes
 
 -- an envelope can always come
-pub comes_step : (r : protocol.Rules) (c : ClientState) (t : Turn) (from : NodeId) (b : Body) → client_step r c (Comes from b) ≡ Some t → t ≡ comes r c c.phase from b
+pub comes_step : (r : protocol.Rules) (c : ClientState) (t : Turn) (from : NodeId) (b : Body) → client_step r c (Comes from b) ≡ Some t →
+    t ≡ comes r c c.phase from b
 unfolding client_step
 comes_step r c t from b e = let same : comes r c c.phase from b ≡ t = cc in sym same

@@ -20,7 +20,8 @@ use Rattle.coordinator.specs.Counting.{Leaves, called_for}
 use Rattle.coordinator.proofs.DecidingLemmas.{IsPrepared}
 use Rattle.coordinator.proofs.CountingLemmas.{leaves_all, prepared_here, replicas_are, same_stage}
 
-pub vote_elsewhere : (r : protocol.Rules) (c : ClientState) (content : Content) (votes : List CountedVote) (proposal : Option Choice) (accepts : List ℕ) (from : NodeId) (x : Exec) (v : Vote) →
+pub vote_elsewhere : (r : protocol.Rules) (c : ClientState) (content : Content) (votes : List CountedVote) (proposal : Option Choice) (accepts : List ℕ)
+    (from : NodeId) (x : Exec) (v : Vote) →
     same_exec x c.exec ≡ false → comes_prepared r c content votes proposal accepts from (Voted x v) ≡ idle c
 unfolding comes_prepared counts_vote
 vote_elsewhere r c content votes (Some d) accepts from x v other = refl
@@ -30,19 +31,22 @@ vote_elsewhere r c content votes None accepts from x v other = go (sender r.repl
     go None = refl
     go (Some j) = rw other refl
 
-vote_proposed : (r : protocol.Rules) (c : ClientState) (content : Content) (votes : List CountedVote) (proposal : Option Choice) (accepts : List ℕ) (from : NodeId) (x : Exec) (v : Vote) (d : Choice) →
+vote_proposed : (r : protocol.Rules) (c : ClientState) (content : Content) (votes : List CountedVote) (proposal : Option Choice) (accepts : List ℕ)
+    (from : NodeId) (x : Exec) (v : Vote) (d : Choice) →
     proposal ≡ Some d → comes_prepared r c content votes proposal accepts from (Voted x v) ≡ idle c
 unfolding comes_prepared
 vote_proposed r c content votes None accepts from x v d is = absurd (cc)
 vote_proposed r c content votes (Some e) accepts from x v d is = refl
 
-vote_strange : (r : protocol.Rules) (c : ClientState) (content : Content) (votes : List CountedVote) (proposal : Option Choice) (accepts : List ℕ) (from : NodeId) (x : Exec) (v : Vote) →
+vote_strange : (r : protocol.Rules) (c : ClientState) (content : Content) (votes : List CountedVote) (proposal : Option Choice) (accepts : List ℕ)
+    (from : NodeId) (x : Exec) (v : Vote) →
     sender r.replicas from ≡ None → comes_prepared r c content votes proposal accepts from (Voted x v) ≡ idle c
 unfolding comes_prepared
 vote_strange r c content votes None accepts from x v none = ap (from_replica c (λ j. counts_vote r c content votes x j v)) none
 vote_strange r c content votes (Some d) accepts from x v none = refl
 
-vote_again : (r : protocol.Rules) (c : ClientState) (content : Content) (votes : List CountedVote) (proposal : Option Choice) (accepts : List ℕ) (from : NodeId) (x : Exec) (v : Vote) (j : ℕ) →
+vote_again : (r : protocol.Rules) (c : ClientState) (content : Content) (votes : List CountedVote) (proposal : Option Choice) (accepts : List ℕ)
+    (from : NodeId) (x : Exec) (v : Vote) (j : ℕ) →
     sender r.replicas from ≡ Some j → same_exec x c.exec ≡ true → list_any (λ b. b.replica == j) votes ≡ true →
     comes_prepared r c content votes proposal accepts from (Voted x v) ≡ idle c
 unfolding comes_prepared counts_vote
@@ -62,16 +66,19 @@ calls r c content votes Wait = refl
 abbrev pub more_votes : List CountedVote → ℕ → Vote → List CountedVote
 more_votes votes j v = votes ++ record { replica = j; vote = v } ∷ []
 
-vote_first : (r : protocol.Rules) (c : ClientState) (content : Content) (votes : List CountedVote) (accepts : List ℕ) (from : NodeId) (x : Exec) (v : Vote) (j : ℕ) →
+vote_first : (r : protocol.Rules) (c : ClientState) (content : Content) (votes : List CountedVote) (accepts : List ℕ) (from : NodeId) (x : Exec) (v : Vote)
+    (j : ℕ) →
     sender r.replicas from ≡ Some j → same_exec x c.exec ≡ true → list_any (λ b. b.replica == j) votes ≡ false →
     comes_prepared r c content votes None accepts from (Voted x v)
     ≡ called_for r (prepared c content (more_votes votes j v) None []) content (more_votes votes j v) (tally_says r.replicas (more_votes votes j v))
 unfolding comes_prepared counts_vote
 vote_first r c content votes accepts from x v j of here new =
-    ap (from_replica c (λ i. counts_vote r c content votes x i v)) of ∙ rw (here, new) (calls r c content (more_votes votes j v) (tally_says r.replicas (more_votes votes j v)))
+    ap (from_replica c (λ i. counts_vote r c content votes x i v)) of ∙ rw (here, new)
+    (calls r c content (more_votes votes j v) (tally_says r.replicas (more_votes votes j v)))
 
 -- a ballot with one more vote
-stands_voted : (g : Given) (c : ClientState) (m : Memory) (content : Content) (votes : List CountedVote) (proposal : Option Choice) (accepts : List ℕ) (b : Ballot) (j : ℕ) (v : Vote) → StandsFor g c m →
+stands_voted : (g : Given) (c : ClientState) (m : Memory) (content : Content) (votes : List CountedVote) (proposal : Option Choice) (accepts : List ℕ)
+    (b : Ballot) (j : ℕ) (v : Vote) → StandsFor g c m →
     IsPrepared m b content votes proposal accepts → b.proposal ≡ None →
     StandsFor g (prepared c content (more_votes votes j v) None []) (record m { stage = stage.Prepared (record b { tally = with_vote b.tally j v }) })
 stands_voted g c m content votes proposal accepts b j v s p none = record {
@@ -85,13 +92,15 @@ stands_voted g c m content votes proposal accepts b j v s p none = record {
   holds = (p.still, p.replicas);
 }
 
-pub vote_counts : (g : Given) (c : ClientState) (m : Memory) (content : Content) (votes : List CountedVote) (proposal : Option Choice) (accepts : List ℕ) (from : NodeId) (x : Exec) (v : Vote) (b b' : Ballot)
+pub vote_counts : (g : Given) (c : ClientState) (m : Memory) (content : Content) (votes : List CountedVote) (proposal : Option Choice) (accepts : List ℕ)
+    (from : NodeId) (x : Exec) (v : Vote) (b b' : Ballot)
     (o : TallyOut) → StandsFor g c m → c.phase ≡ Prepared content votes proposal accepts → m.stage ≡ stage.Prepared b → same_exec x c.exec ≡ true →
     ((p : Proposed) → b.proposal ≡ Some p → (b' ≡ b) × (o ≡ Wait)) → (sender b.tally.replicas from ≡ None → (b' ≡ b) × (o ≡ Wait)) →
     ((j : ℕ) → sender b.tally.replicas from ≡ Some j → has_voted j b.tally ≡ true → (b' ≡ b) × (o ≡ Wait)) →
     ((j : ℕ) → b.proposal ≡ None → sender b.tally.replicas from ≡ Some j → has_voted j b.tally ≡ false →
     (b' ≡ record b { tally = with_vote b.tally j v }) × (o ≡ tally_says b'.tally.replicas b'.tally.votes)) →
-    Leaves g content (comes_prepared g.rules c content votes proposal accepts from (Voted x v)) (record m { stage = stage.Prepared b' }) (λ d more. called_for g.rules d content more o)
+    Leaves g content (comes_prepared g.rules c content votes proposal accepts from (Voted x v)) (record m { stage = stage.Prepared b' })
+    (λ d more. called_for g.rules d content more o)
 vote_counts g c m content votes proposal accepts from x v b b' o s is at here proposed strange again first =
     by b.proposal (sender b.tally.replicas from) refl refl
   where
@@ -102,9 +111,11 @@ vote_counts g c m content votes proposal accepts from x v b b' o s is at here pr
     n = replicas_are g c m content votes proposal accepts b s p
 
     nothing : (b' ≡ b) × (o ≡ Wait) → comes_prepared g.rules c content votes proposal accepts from (Voted x v) ≡ idle c →
-        Leaves g content (comes_prepared g.rules c content votes proposal accepts from (Voted x v)) (record m { stage = stage.Prepared b' }) (λ d more. called_for g.rules d content more o)
+        Leaves g content (comes_prepared g.rules c content votes proposal accepts from (Voted x v)) (record m { stage = stage.Prepared b' })
+        (λ d more. called_for g.rules d content more o)
     nothing same idles =
-        leaves_all g c (record m { stage = stage.Prepared b' }) content votes proposal accepts (comes_prepared g.rules c content votes proposal accepts from (Voted x v))
+        leaves_all g c (record m { stage = stage.Prepared b' }) content votes proposal accepts
+        (comes_prepared g.rules c content votes proposal accepts from (Voted x v))
         (λ d more. called_for g.rules d content more o) (subst (λ (z : Memory). StandsFor g c z) (same_stage m b b' at same.0) s) is
         (idles ∙ ap (λ q. called_for g.rules c content votes q) (sym same.1))
 
@@ -112,9 +123,11 @@ vote_counts g c m content votes proposal accepts from x v b b' o s is at here pr
     votes_now j = ap (λ vs. list_any (λ (d : CountedVote). d.replica == j) vs) p.votes
 
     one : (j : ℕ) (t : Bool) → b.proposal ≡ None → sender b.tally.replicas from ≡ Some j → has_voted j b.tally ≡ t →
-        Leaves g content (comes_prepared g.rules c content votes proposal accepts from (Voted x v)) (record m { stage = stage.Prepared b' }) (λ d more. called_for g.rules d content more o)
+        Leaves g content (comes_prepared g.rules c content votes proposal accepts from (Voted x v)) (record m { stage = stage.Prepared b' })
+        (λ d more. called_for g.rules d content more o)
     one j true none of voted =
-        nothing (again j of voted) (vote_again g.rules c content votes proposal accepts from x v j (ap (λ k. sender k from) (sym n) ∙ of) here (sym (votes_now j) ∙ voted))
+        nothing (again j of voted)
+        (vote_again g.rules c content votes proposal accepts from x v j (ap (λ k. sender k from) (sym n) ∙ of) here (sym (votes_now j) ∙ voted))
     one j false none of new =
         let now = first j none of new in
         let unproposed : proposal ≡ None = sym p.proposal ∙ ap choice_of none in
@@ -137,7 +150,8 @@ vote_counts g c m content votes proposal accepts from x v b b' o s is at here pr
         }
 
     by : (q : Option Proposed) (k : Option ℕ) → b.proposal ≡ q → sender b.tally.replicas from ≡ k →
-        Leaves g content (comes_prepared g.rules c content votes proposal accepts from (Voted x v)) (record m { stage = stage.Prepared b' }) (λ d more. called_for g.rules d content more o)
+        Leaves g content (comes_prepared g.rules c content votes proposal accepts from (Voted x v)) (record m { stage = stage.Prepared b' })
+        (λ d more. called_for g.rules d content more o)
     by (Some q) k stood of =
         nothing (proposed q stood) (vote_proposed g.rules c content votes proposal accepts from x v q.choice (sym p.proposal ∙ ap choice_of stood))
     by None None none of = nothing (strange of) (vote_strange g.rules c content votes proposal accepts from x v (ap (λ k. sender k from) (sym n) ∙ of))
