@@ -1,0 +1,4 @@
+pub mod Totals
+pub mod EventsFall
+pub mod TurnsFall
+pub mod Rounds
