@@ -1,5 +1,7 @@
 -- The canonical text of a script is read back.
-use Rattle.std.specs.Prelude.{◌≡◌}
+use Rattle.std.specs.Prelude.{◌≡◌, Result, Ok, Err}
+use Rattle.txn_text.specs.declared.faults.TextFault.{TextFault}
+use Rattle.txn_text.specs.declared.faults.TextFault.TheVariants.{At, NoMemory}
 use Rattle.script.specs.declared.setup.Setup.{Setup}
 use Rattle.script.specs.Meaning.{Script, said_by}
 use Rattle.script.specs.Canonical.{canonical_script}
@@ -10,3 +12,9 @@ use Rattle.script.specs.Texts.{IsScriptOf, IsSetupOf}
 pub record CanonicalIsReadBack : Type 0 where
   pub says : (s : Setup) → IsSetup s → IsSetupOf (canonical_script s) s
   pub alone : (s : Setup) (t : Script) → IsSetup s → IsScriptOf (canonical_script s) t → t ≡ said_by s
+
+-- what a call gave: a setup that means the same, or want of memory
+abbrev pub IsReadBack : Setup → Result Setup TextFault → Type 0
+IsReadBack s (Ok t) = said_by t ≡ said_by s
+IsReadBack s (Err (At line kind)) = ⊥
+IsReadBack s (Err NoMemory) = Unit {0}

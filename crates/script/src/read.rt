@@ -4,6 +4,10 @@ ghost use Rattle.script.specs.Items.{item, items};
 ghost use Rattle.script.specs.Meaning.{nothing_said, said_by, script_of};
 ghost use Rattle.script.specs.Checks.{all_checks};
 ghost use Rattle.script.specs.Texts.{IsReadOf};
+ghost use Rattle.script.specs.Canonical.{canonical_script};
+ghost use Rattle.script.specs.Sayable.{IsSetup};
+ghost use Rattle.script.specs.ReadBack.{IsReadBack};
+ghost use Rattle.script.specs.declared.setup.Setup.{Setup as SetupValue};
 ghost use Rattle.script.specs.Building.{IsReadable};
 
 use crate::builder::SetupBuilder;
@@ -27,10 +31,12 @@ fn setup_of(alloc: Global, text: &[u8], list: &[RawItem]) -> Result<Setup, TextF
 }
 
 /// The setup that a text says, or its one fault: of its first bad token; else of the first token with which no script
-/// goes on, or that is past a limit; else of the first item that means nothing.
+/// goes on, or that is past a limit; else of the first item that means nothing. The canonical text of a setup that some
+/// text says is read as that setup.
 pub fn read_script(alloc: Global, bytes: &[u8]) -> Result<Setup, TextFault>
     requires { length bytes.now < u32.MAX }
-    ensures { IsReadOf bytes.now result }
+    ensures says { IsReadOf bytes.now result }
+    ensures back { (s : SetupValue) → IsSetup s → bytes.now ≡ canonical_script s → IsReadBack s result }
 {
     let toks = tokens(alloc, bytes)?;
     let list = read_items(alloc, bytes, toks.as_slice())?;
