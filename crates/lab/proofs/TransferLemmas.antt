@@ -7,15 +7,11 @@ use Rattle.std.proofs.lemmas.List.FromFn.{map-range_with_len_more, filter_of_map
 use Rattle.std.specs.List.{IsDistinct, range_with_len}
 use Rattle.rand_pcg.specs.Lcg.{Lcg}
 use Rattle.morty_base.specs.ScriptNames.{is_setting_word, is_item_word, is_net_word, is_plan_word, is_statement_word, is_reserved, is_name}
-use Rattle.txn_lang.specs.declared.tree.BinOp.TheVariants.{Add, Sub, Lt}
-use Rattle.txn_lang.specs.declared.tree.Expr.{Expr}
 use Rattle.txn_lang.specs.declared.tree.Expr.TheVariants as expr
 use Rattle.txn_lang.specs.declared.tree.Stmt.TheVariants as stmt
-use Rattle.txn_lang.specs.declared.tree.Block.{Block}
-use Rattle.txn_lang.specs.Tree.{Num, Local, Bin, Read, Write, Print, If, Abort, Commands, End, Then, term, commands, commands_of}
+use Rattle.txn_lang.specs.Tree.{Commands}
 use Rattle.txn_lang.specs.Limits.{IsWithin}
 use Rattle.txn_lang.specs.Form.{IsWellFormed}
-use Rattle.txn_lang.proofs.Trees.{term-Num, term-Local, command-Read, command-Write, command-Print, command-If, command-Abort}
 use Rattle.script.specs.declared.setup.First.{First}
 use Rattle.script.specs.declared.setup.NamedProg.{NamedProg}
 use Rattle.script.specs.declared.setup.Txn.{Txn}
@@ -24,7 +20,7 @@ use Rattle.lab.specs.declared.draws.Transfer.{Transfer}
 use Rattle.lab.specs.declared.draws.TheConstants.{ACCOUNTS, GREATEST_AMOUNT}
 use Rattle.lab.specs.declared.generated.TheConstants.{CLIENTS}
 use Rattle.lab.specs.Draws.{draw, apart_from, transfer_by, next_transfer, transfers}
-use Rattle.lab.specs.Generated.{number, left_over, transfer_body, transfer_locals, transfer_prog, transfer_progs, transfer_txn, txns_of, account}
+use Rattle.lab.specs.Generated.{transfer_body, transfer_locals, transfer_prog, transfer_progs, transfer_txn, txns_of, account}
 
 -- the next transfer is the first of those that are left
 next_of_left : (size i : ℕ) (g : Lcg) → i < size → transfers (size - i) g ≡ (next_transfer g).0 ∷ transfers (size - (i + 1)) (next_transfer g).1
@@ -42,9 +38,6 @@ one_prog size i g h t ps p less drawn made =
     ∙ ap (λ (x : Lcg). map named_of ps ++ transfer_prog (i + 1) (next_transfer g).0 ∷ transfer_progs (i + 1 + 1) (transfers (size - (i + 1)) x)) behind
     ∙ ap (λ (ts : List Transfer). map named_of ps ++ transfer_progs (i + 1) ts) (sym (next_of_left size i g less))
 
-pub no_prog_left : (size i : ℕ) (g : Lcg) (ns : List Named) → size ≤ i → ns ++ transfer_progs (i + 1) (transfers (size - i) g) ≡ ns
-no_prog_left size i g ns over = ap (λ (n : ℕ). ns ++ transfer_progs (i + 1) (transfers n g)) (let e : size - i ≡ 0 = omega (arith, over) in e) ∙ append-nil ns
-
 pub transfer_formed : (t : Transfer) → IsWellFormed transfer_locals (transfer_body t)
 unfolding is_setting_word is_item_word is_net_word is_plan_word is_statement_word is_reserved is_name IsDistinct
 transfer_formed t = record { named = refl; distinct = ((refl, tt), (tt, tt)); filled = tt; formed = search rules; all_placed = refl }
@@ -59,17 +52,6 @@ transfer_within t = record {
   depth_within = omega arith;
   each = search rules;
 }
-
-pub is_transfer : (t : Transfer) (from from' to to' low less more left : Expr) (gives_up otherwise all : Block) →
-    term low ≡ Bin Lt (Local 0) (number t.amount) → term less ≡ left_over t → term more ≡ Bin Add (Local 1) (number t.amount) → term left ≡ left_over t →
-    term from ≡ number t.from → term from' ≡ number t.from → term to ≡ number t.to → term to' ≡ number t.to →
-    gives_up.stmts ≡ stmt.Abort ∷ [] → otherwise.stmts ≡ [] →
-    all.stmts ≡ stmt.Read 0 0 from ∷ stmt.If low gives_up otherwise ∷ stmt.Read 1 0 to ∷ stmt.Write 0 from' less ∷ stmt.Write 0 to' more ∷ stmt.Print left ∷ [] →
-    commands all ≡ transfer_body t
-is_transfer t from from' to to' low less more left gives_up otherwise all e1 e2 e3 e4 e5 e6 e7 e8 within none is =
-    let inner : commands gives_up ≡ Then Abort End = ap commands_of within ∙ simp command-Abort in
-    let empty : commands otherwise ≡ End = ap commands_of none in
-    ap commands_of is ∙ simp (command-Read, command-If, command-Write, command-Print, e1, e2, e3, e4, e5, e6, e7, e8, inner, empty)
 
 pub formed_as : (names : List (List ℕ)) (body : Commands) (t : Transfer) → names ≡ transfer_locals → body ≡ transfer_body t → IsWellFormed names body
 formed_as names body t same is = subst (λ ns. IsWellFormed ns body) (sym same) (subst (IsWellFormed transfer_locals) (sym is) (transfer_formed t))

@@ -11,7 +11,6 @@ use Rattle.morty_base.specs.Names.{same_key}
 use Rattle.morty_base.specs.declared.names.NodeId.{NodeId}
 use Rattle.net_core.specs.declared.plan.PlanItem.{PlanItem}
 use Rattle.net_core.specs.declared.plan.PlanWhat.{PlanWhat}
-use Rattle.std.specs.Option.{is_some}
 use Rattle.txn_text.specs.declared.kinds.Token.{Token}
 use Rattle.txn_text.specs.declared.faults.FaultKind.TheVariants.{TooManyTransactions, UnknownProgram, AtRange, RepeatedFirst}
 use Rattle.txn_text.specs.declared.faults.TextFault.{TextFault}
@@ -58,13 +57,6 @@ none_tells false n e = refl
 -- a name that is not found is none of them
 pub no_place : (index : NameIndex) (names : Names) (name : List ℕ) → IsIndexOf index names → place_in index name ≡ None → is_known names name ≡ false
 no_place index names name stands is = none_tells (is_known names name) (place names name) (sym (stands.places name) ∙ is)
-
-known_by : (b : Bool) (n : ℕ) → is_some (cond b (Some n) None) ≡ b
-known_by true n = refl
-known_by false n = refl
-
-pub known_if_found : (index : NameIndex) (names : Names) (name : List ℕ) → IsIndexOf index names → is_some (place_in index name) ≡ is_known names name
-known_if_found index names name stands = ap is_some (stands.places name) ∙ known_by (is_known names name) (place names name)
 
 -- the transaction behind as many as there is room for
 pub room_fault : (room : ℕ) (txns : List RawTxn) (d : RawTxn) → room < length txns → first_failing (room_checks room txns) ≡ Some (At (get_or txns room d).name.line TooManyTransactions)

@@ -9,7 +9,6 @@ mod Stopping
 mod GrammarFits
 pub mod Taking
 mod BlocksAreRead
-mod FirstPast
 pub mod OneOutcome
 pub mod GroupLemmas
 pub mod ListedLemmas

@@ -11,6 +11,7 @@ use Rattle.txn_parse.specs.Faults.{IsWithinLimits, IsTheFault, IsFirstPast}
 use Rattle.txn_parse.specs.Gives.{last_line}
 use Rattle.txn_parse.specs.Binding.{first_failing}
 use Rattle.txn_parse.proofs.OneFault.{one_fault_of, no_fault}
+use Rattle.txn_parse.proofs.FirstPast.{first_past_of}
 use Rattle.script.specs.Items.{Item}
 use Rattle.script.specs.Rules.{Derives, read}
 use Rattle.script.specs.Grammar.{script}
@@ -19,7 +20,6 @@ use Rattle.script.specs.Meaning.{Script, nothing_said, script_of}
 use Rattle.script.specs.Checks.{all_checks}
 use Rattle.script.specs.Texts.{HasItems, IsScriptOf, IsBadlyPut, IsFaultOf, bad_token, badly_put, badly_meant, OneOutcome}
 use Rattle.script.proofs.Stopping.{read_whole, reached, failed, bad_fault, end_fault, cut_bad, cut_past}
-use Rattle.script.proofs.FirstPast.{first_past_of}
 use Rattle.script.proofs.GrammarFits.{script_fits}
 use Rattle.script.proofs.BlocksAreRead.{blocks}
 

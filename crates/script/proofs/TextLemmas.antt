@@ -1,7 +1,6 @@
 -- What a printer holds once transactions and clients were printed.
-use Rattle.std.proofs.Common.{◌≡◌, ◌<◌, ◌≤◌, ◌+◌, ℕ, suc, true, List, [], ◌∷◌, ◌++◌, map, length, drop, get_or, Result, refl, sym, ap, ◌∙◌, add-one, drop-cons}
+use Rattle.std.proofs.Common.{◌≡◌, ◌<◌, ◌+◌, ℕ, suc, true, List, [], ◌∷◌, ◌++◌, map, length, drop, get_or, Result, refl, sym, ap, ◌∙◌, add-one, drop-cons}
 use Rattle.std.specs.Prelude.{codes, OnOk}
-use Rattle.std.proofs.lemmas.List.{drop_all}
 use Rattle.std.proofs.lemmas.Result.{on_ok_weaker}
 use Rattle.txn_print.specs.declared.printer.Printer.{Printer}
 use Rattle.txn_print.specs.Piece.{Piece, Word, Number, Symbol}
@@ -30,9 +29,6 @@ module _ (programs : Names) where
       ∙ sym (printed_append (with_piece p (Symbol (codes ";"))) (txn_pieces programs t) rest)
       ∙ ap (λ (l : List Txn). printed p (more_txns programs l)) (sym split)
 
-  pub all_txns : (txns : List Txn) (i : ℕ) (p : Printer) → length txns ≤ i → printed p (more_txns programs (drop i txns)) ≡ p
-  all_txns txns i p over = ap (λ (l : List Txn). printed p (more_txns programs l)) (drop_all i txns over)
-
   -- one more client was printed
   pub one_client : (clients : List (List Txn)) (i : ℕ) (txns : List Txn) (p q : Printer) → i < length clients → txns ≡ get_or clients i txns → q ≡ with_line (printed p (client_line programs (i + 1) txns)) →
       lines_printed q (client_lines programs (i + 1 + 1) (drop (i + 1) clients)) ≡ lines_printed p (client_lines programs (i + 1) (drop i clients))
@@ -41,9 +37,6 @@ module _ (programs : Names) where
       ap (λ (n : ℕ). lines_printed q (client_lines programs (i + 1 + 1) (drop n clients))) (add-one i)
       ∙ ap (λ (s : Printer). lines_printed s (client_lines programs (i + 1 + 1) (drop (suc i) clients))) next
       ∙ ap (λ (l : List (List Txn)). lines_printed p (client_lines programs (i + 1) l)) (sym split)
-
-  pub all_clients : (clients : List (List Txn)) (i : ℕ) (p : Printer) → length clients ≤ i → lines_printed p (client_lines programs (i + 1) (drop i clients)) ≡ p
-  all_clients clients i p over = ap (λ (l : List (List Txn)). lines_printed p (client_lines programs (i + 1) l)) (drop_all i clients over)
 
 -- a whole client
 pub client_printed :
@@ -80,9 +73,6 @@ module _ (tables : Names) (progs : List NamedProg) where
       ap (λ (n : ℕ). lines_printed q (map (program_line tables) (map named_of (drop n progs)))) (add-one i)
       ∙ ap (λ (s : Printer). lines_printed s (map (program_line tables) (map named_of (drop (suc i) progs)))) next
       ∙ ap (λ (l : List NamedProg). lines_printed p (map (program_line tables) (map named_of l))) (sym split)
-
-  pub all_programs : (i : ℕ) (p : Printer) → length progs ≤ i → lines_printed p (map (program_line tables) (map named_of (drop i progs))) ≡ p
-  all_programs i p over = ap (λ (l : List NamedProg). lines_printed p (map (program_line tables) (map named_of l))) (drop_all i progs over)
 
 -- lines behind others
 goes_on : (p q s : Printer) (xs ys : List (List Piece)) → q ≡ lines_printed p xs → s ≡ lines_printed q ys → s ≡ lines_printed p (xs ++ ys)

@@ -1,24 +1,12 @@
 -- What words say, from what was read of them.
-use Rattle.std.proofs.Common.{◌≡◌, ℕ, ◌<◌, ◌≤◌, ◌&&◌, nat_lt, nat_le, List, [], ◌∷◌, length, Bool, true, false, cond, Option, Some, None, refl, sym, ap, ◌∙◌, arith}
+use Rattle.std.proofs.Common.{◌≡◌, ℕ, ◌<◌, ◌≤◌, ◌&&◌, nat_lt, nat_le, List, [], ◌∷◌, length, Bool, true, false, cond, Some, None, refl, sym, ap, ◌∙◌, arith}
 use Rattle.std.specs.List.{list_all}
 use Rattle.std.proofs.lemmas.Bool.Decides.{nat_tests}
 use Rattle.morty_base.specs.ScriptNames.{is_digit}
 use Rattle.script_cli.specs.Words.{is_decimal, number_if}
 
-over : (n most : ℕ) → most < n → nat_le n most ≡ false
-over n most more = grind (arith, nat_tests)
-
 under : (n most : ℕ) → n ≤ most → nat_le n most ≡ true
 under n most few = grind (arith, nat_tests)
-
-none_right : (n : ℕ) (d e : Bool) → cond (d && (e && false)) (Some n) None ≡ None
-none_right n true true = refl
-none_right n true false = refl
-none_right n false e = refl
-
-none_left : (n : ℕ) (d e : Bool) → cond (d && (false && e)) (Some n) None ≡ None
-none_left n true e = refl
-none_left n false e = refl
 
 more_than_none : (n : ℕ) → 0 < n → nat_lt 0 n ≡ true
 more_than_none n some = grind (arith, nat_tests)
@@ -30,16 +18,6 @@ decimal_where word some = sym (ap (λ (b : Bool). b && list_all is_digit word) (
 pub no_digits : (word : List ℕ) → length word ≤ 0 → false ≡ is_decimal word
 no_digits [] none = refl
 no_digits (b ∷ bs) none = absurd (let e : ⊥ = omega (arith, none) in e)
-
--- too great, too small, no decimal number, and within
-pub too_great : (d : Bool) (least most n : ℕ) → most < n → None ≡ number_if d least most n
-too_great d least most n more = sym (ap (λ (b : Bool). cond (d && (nat_le least n && b)) (Some n) None) (over n most more) ∙ none_right n d (nat_le least n))
-
-pub too_small : (d : Bool) (least most n : ℕ) → n < least → None ≡ number_if d least most n
-too_small d least most n less = sym (ap (λ (b : Bool). cond (d && (b && nat_le n most)) (Some n) None) (over least n less) ∙ none_left n d (nat_le n most))
-
-pub no_decimal : (d : Bool) (least most n : ℕ) → d ≡ false → None ≡ number_if d least most n
-no_decimal d least most n is = sym (ap (λ (b : Bool). number_if b least most n) is)
 
 pub said : (d : Bool) (least most n : ℕ) → d ≡ true → least ≤ n → n ≤ most → Some n ≡ number_if d least most n
 said d least most n is some few =
