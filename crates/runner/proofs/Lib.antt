@@ -2,3 +2,5 @@ pub mod Totals
 pub mod EventsFall
 pub mod TurnsFall
 pub mod Rounds
+pub mod NodesFrom
+pub mod TurnsKept

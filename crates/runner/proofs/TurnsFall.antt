@@ -45,15 +45,16 @@ not_a_turn (Truncate w) e = absurd (let t : true ≡ false = e in cc)
 not_a_turn Stop e = absurd (let t : true ≡ false = e in cc)
 
 -- a turn that answers a job: of a run that has not ended, it hands out the pending job
-record IsHanded {J : Type 0} (m : Machine) (jobs : History → NodeId → Option J) (n : NodeId) (slot : ℕ) (old new : HubView J) (j : J) : Type 0 where
-  due : IsDue m jobs (history old) n j
-  no_end : old.ended ≡ None
-  handed : new ≡ record old { handed = set old.handed slot (Some j) }
+pub record IsHanded {J : Type 0} (m : Machine) (jobs : History → NodeId → Option J) (n : NodeId) (slot : ℕ) (old new : HubView J) (j : J) : Type 0 where
+  pub due : IsDue m jobs (history old) n j
+  pub no_end : old.ended ≡ None
+  pub handed : new ≡ record old { handed = set old.handed slot (Some j) }
 
 module _ {J : Type 0} (m : Machine) (jobs : History → NodeId → Option J) (lawful : IsLawful m jobs) (turns slot : ℕ) (n : NodeId)
     (here : slice_get m.nodes slot ≡ Some n) where
   -- no job is pending where none is left and none was handed out
-  none_pending : (old : HubView J) (o : Option J) → IsRecalled m old → jobs (history old) n ≡ o → NoneLeft o old.handed slot → m.pending (history old) n ≡ false
+  pub none_pending : (old : HubView J) (o : Option J) → IsRecalled m old → jobs (history old) n ≡ o →
+      NoneLeft o old.handed slot → m.pending (history old) n ≡ false
   none_pending old None on is left = lawful.pending (history old) n ∙ ap is_some is
   none_pending old (Some j) on is left =
       let there : slice_get old.handed slot ≡ Some None =
@@ -110,7 +111,7 @@ module _ {J : Type 0} (m : Machine) (jobs : History → NodeId → Option J) (la
             (idle_falls m jobs turns (history old) slot n p lawful here is unmarked)),
       )
 
-  live_marked : (old : HubView J) → is_marked m (history old) n ≡ true → m.pending (history old) n ≡ false → rests m (history old) n ≡ true
+  pub live_marked : (old : HubView J) → is_marked m (history old) n ≡ true → m.pending (history old) n ≡ false → rests m (history old) n ≡ true
   live_marked old marked pending = (λ i. not (m.live (history old) n) || (marked i && not (pending i))) ∙ or_true (not (m.live (history old) n))
     where
       or_true : (a : Bool) → (a || true) ≡ true
@@ -135,7 +136,7 @@ module _ {J : Type 0} (m : Machine) (jobs : History → NodeId → Option J) (la
   turn_visited old new out on other turn = visited old new out turn.case on other turn.is_case turn.does
 
   -- a turn that answers a job
-  handed_out : (old new : HubView J) (j : J) (case : TurnCase J) → IsCase m jobs turns n slot old case →
+  pub handed_out : (old new : HubView J) (j : J) (case : TurnCase J) → IsCase m jobs turns n slot old case →
       Does m n slot old new (TurnOut.Job j) case → IsHanded m jobs n slot old new j
   handed_out old new j (TurnCase.Over e) is does = over e does.0
     where

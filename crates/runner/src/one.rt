@@ -1,8 +1,10 @@
-ghost use Rattle.std.specs.Prelude.{◌≡◌, ◌<◌, ◌-◌, true, false, replicate, Some, None, IfOk, OnOk, OnErr};
+ghost use Rattle.std.specs.Prelude.{◌≡◌, ◌<◌, ◌-◌, true, false, [], Some, None, IfOk, OnOk, OnErr};
 ghost use Rattle.net_core.specs.Marks.{end_of};
 ghost use Rattle.hub.specs.Kept.{picks_in, rans_in};
 ghost use Rattle.hub.specs.Starts.{Start};
 ghost use Rattle.hub.specs.Views.{history, told_end};
+ghost use Rattle.net_core.specs.Rounds.{InRounds};
+ghost use Rattle.runner.specs.AtSlot.{IsAtSlot, KeepsTurns, HasTurns};
 ghost use Rattle.runner.specs.Progress.{IsRecalled, IsVisited, IsRound};
 
 use hub::{Hub, Named, TurnOut};
@@ -31,6 +33,8 @@ pub fn run_one<M: Machine, L: Link, N: Named<M::Origin>>(
     ensures turns { IfOk result (λ r. r.turns ≡ picks_in (history hub.new) - picks_in (history hub.old)) }
     ensures rans { IfOk result (λ r. (s : Start M.Origin) → N.start ≡ Some s
         → r.rans ≡ rans_in (M.rules s.origin) (history hub.new) - rans_in (M.rules s.origin) (history hub.old)) }
+    ensures rounds { OnOk result ((s : Start M.Origin) → N.start ≡ Some s → hub.old.journal ≡ [] → hub.old.ended ≡ None
+        → InRounds (M.rules s.origin) s.turns (history hub.new)) }
     ensures err { OnErr result (hub.new.spoiled ≡ true) }
 {
     let first = hub.counted();
@@ -55,6 +59,8 @@ fn run_rounds<M: Machine, L: Link, N: Named<M::Origin>>(
     requires recalled { (s : Start M.Origin) → N.start ≡ Some s → IsRecalled (M.rules s.origin) hub.old }
     ensures ended { IfOk result (λ e. told_end hub.new ≡ Some e) }
     ensures end { IfOk result (λ e. (s : Start M.Origin) → N.start ≡ Some s → end_of (M.rules s.origin) s.turns (history hub.new) ≡ Some e) }
+    ensures rounds { OnOk result ((s : Start M.Origin) → N.start ≡ Some s → IsAtSlot (M.rules s.origin) s.turns 0 hub.old
+        → InRounds (M.rules s.origin) s.turns (history hub.new)) }
     ensures err { OnErr result (hub.new.spoiled ≡ true) }
 {
     'rounds: loop {
@@ -74,6 +80,8 @@ fn round<M: Machine, L: Link, N: Named<M::Origin>>(
     requires { (s : Start M.Origin) × (N.start ≡ Some s) × M.kit_of s.origin kit.now }
     ensures ok { OnOk result ((s : Start M.Origin) → N.start ≡ Some s → IsRecalled (M.rules s.origin) hub.old
         → IsRound (M.rules s.origin) s.turns hub.old hub.new) }
+    ensures keeps { OnOk result ((s : Start M.Origin) → N.start ≡ Some s → IsRecalled (M.rules s.origin) hub.old
+        → IsAtSlot (M.rules s.origin) s.turns 0 hub.old → HasTurns (M.rules s.origin) s.turns hub.new) }
     ensures err { OnErr result (hub.new.spoiled ≡ true) }
 {
     for slot in 0..hub.nodes() {
@@ -96,6 +104,8 @@ fn visit<M: Machine, L: Link, N: Named<M::Origin>>(
     requires slot { slot < hub.old.nodes }
     ensures ok { OnOk result ((s : Start M.Origin) → N.start ≡ Some s → IsRecalled (M.rules s.origin) hub.old
         → IsVisited (M.rules s.origin) s.turns slot hub.old hub.new) }
+    ensures keeps { OnOk result ((s : Start M.Origin) → N.start ≡ Some s → IsRecalled (M.rules s.origin) hub.old
+        → IsAtSlot (M.rules s.origin) s.turns slot hub.old → KeepsTurns (M.rules s.origin) s.turns slot hub.new) }
     ensures sound { OnOk result (hub.new.spoiled ≡ false) }
     ensures nodes { hub.new.nodes ≡ hub.old.nodes }
     ensures err { OnErr result (hub.new.spoiled ≡ true) }

@@ -1,5 +1,6 @@
 use Rattle.std.proofs.Common.{◌≡◌, length, Some}
 use Rattle.hub.specs.Starts.{Start}
+use Rattle.runner.specs.AtSlot.{IsAtSlot}
 use Rattle.runner.specs.Progress.{IsRecalled, IsRoundSoFar}
 use Rattle.runner.proofs.one.round.Given as goal
 
@@ -10,4 +11,6 @@ invariant-loop-slot g l = record {
   all : (s : Start g.row.M-Origin.Denot) → g.N.Named.start ≡ Some s → l.slot-end ≡ length (g.M.Machine.rules s.origin).nodes;
   so_far : (s : Start g.row.M-Origin.Denot) → g.N.Named.start ≡ Some s → IsRecalled (g.M.Machine.rules s.origin) l.fn.hub →
       IsRoundSoFar (g.M.Machine.rules s.origin) s.turns l.slot l.fn.hub l.hub;
+  kept : (s : Start g.row.M-Origin.Denot) → g.N.Named.start ≡ Some s → IsRecalled (g.M.Machine.rules s.origin) l.fn.hub →
+      IsAtSlot (g.M.Machine.rules s.origin) s.turns 0 l.fn.hub → IsAtSlot (g.M.Machine.rules s.origin) s.turns l.slot l.hub;
 }
