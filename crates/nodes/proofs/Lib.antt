@@ -1,0 +1,4 @@
+pub mod Results
+pub mod Placed
+pub mod WardenTurns
+pub mod TurnedWardens

@@ -1,0 +1,45 @@
+-- When clients stand for those of a world.
+use Rattle.std.specs.Prelude.{◌≡◌, ℕ, suc, List, ◌++◌, map, length, Some, flat_map}
+use Rattle.std.specs.List.{slice_get}
+use Rattle.protocol.specs.Words.{Envelope, Client as ClientNode}
+use Rattle.protocol.specs.Client.State.{ClientState, Turn}
+use Rattle.protocol.specs.World.State.{Plan, rules}
+use Rattle.protocol.specs.World.Events.{at, to_all}
+use Rattle.execution.specs.Execution.{Loaded}
+use Rattle.coordinator.specs.Memory.{Given, txn_in}
+use Rattle.coordinator.specs.declared.memory.Rules.{Rules as ScriptRules}
+use Rattle.coordinator.specs.declared.memory.Txn2.{Txn2}
+use Rattle.coordinator.specs.Coordinator.{StandsFor}
+use Rattle.coordinator.specs.declared.coordinator.Coordinator.{Coordinator}
+use Rattle.nodes.specs.declared.clients.Clients.{Clients}
+
+-- a plan, and the programs of its transactions by their numbers
+pub record Loads : Type 0 where
+  pub plan : Plan
+  pub programs : List Loaded
+
+-- the plan has these rules, and clients with these transactions
+pub record IsPlanOf (l : Loads) (rules : ScriptRules) (txns : List (List Txn2)) : Type 0 where
+  pub replicas : l.plan.replicas ≡ rules.replicas
+  pub tries : l.plan.tries ≡ rules.tries
+  pub execs : l.plan.execs ≡ rules.execs
+  pub gap : l.plan.gap ≡ rules.gap
+  pub clients : l.plan.clients ≡ map (map (txn_in l.programs)) txns
+
+-- what client c is given
+abbrev pub given : Loads → ℕ → Given
+given l c = record { rules = rules l.plan c; programs = l.programs }
+
+-- a coordinator that stands for what client c remembers
+abbrev pub IsClient : Loads → ℕ → ClientState → Coordinator → Type 0
+IsClient l c state s = StandsFor (given l c) state s
+
+-- as many as the plan has, each of which stands for what it remembers
+pub record AreClients (l : Loads) (states : ℕ → ClientState) (cs : Clients) : Type 0 where
+  pub count : length cs.clients.items ≡ length l.plan.clients
+  pub each : (i : ℕ) (s : Coordinator) → slice_get cs.clients.items i ≡ Some s → IsClient l (suc i) (states (suc i)) s
+
+-- client c takes a turn, whose envelopes stand behind those that were there before
+pub record TakesTurn (l : Loads) (c : ℕ) (t : Turn) (states : ℕ → ClientState) (cs : Clients) (before after : List Envelope) : Type 0 where
+  pub stands : AreClients l (at c t.state states) cs
+  pub sent : after ≡ before ++ flat_map (to_all l.plan.replicas (ClientNode c)) t.sent
