@@ -204,14 +204,19 @@ by_keys {B} f ks (s ∷ ss) k o none =
         either true r = refl
         either false r = refl
 
+-- the Notes that are due are those of the readers
+pub due_of_readers : (firsts : List First2) (h : Handled) (m : Envelope) (number : ℕ) (r : Records) → StandsFor firsts (m ∷ h) r →
+    flat_map (notes_by firsts h (m ∷ h) number) r.readers.readers.items ≡ due firsts number h (m ∷ h)
+due_of_readers firsts h m number r s = flat_map_names (note_for firsts h (m ∷ h) number) r.readers.readers.items
+    ∙ (ap (flat_map (note_for firsts h (m ∷ h) number)) s.readers_are ∙ due_now firsts number h m)
+
 -- the Notes of the listed keys are those that are due
 pub due_listed : (firsts : List First2) (h : Handled) (m : Envelope) (number : ℕ) (r : Records) → StandsFor firsts (m ∷ h) r → WereTold firsts h r →
     flat_map (notes_at (notes_by firsts h (m ∷ h) number) r.readers.readers.items) (listed r) ≡ due firsts number h (m ∷ h)
 due_listed firsts h m number r s t =
     by_keys (notes_by firsts h (m ∷ h) number) (listed r) r.readers.readers.items (rising r.all_touched) (in_order
     (m ∷ h) r.readers.readers.items s.readers_are) quiet
-    ∙ (flat_map_names (note_for firsts h (m ∷ h) number) r.readers.readers.items
-    ∙ (ap (flat_map (note_for firsts h (m ∷ h) number)) s.readers_are ∙ due_now firsts number h m))
+    ∙ due_of_readers firsts h m number r s
   where
     rising : (b : Bool) → AreRising (cond b r.reader_keys.keys.items r.touched.keys.items)
     rising true = s.keys_rise

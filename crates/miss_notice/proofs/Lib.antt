@@ -1,1 +1,2 @@
 pub mod DueNotes
+pub mod NotesTold

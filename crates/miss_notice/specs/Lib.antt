@@ -1,2 +1,3 @@
 pub mod Envelope2
+pub mod Marks
 pub mod Notes

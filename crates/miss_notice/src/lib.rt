@@ -13,8 +13,9 @@ ghost use Rattle.protocol.specs.Replica.Held.{held, latest};
 ghost use Rattle.protocol.specs.Replica.Taken.{Handled, dropped};
 ghost use Rattle.protocol.specs.Replica.Readers.{due, note_for, same_held};
 ghost use Rattle.mv_index.specs.ReaderList.{reader_of};
-ghost use Rattle.mv_record.specs.Records.{StandsFor, WereTold, IsTold, is_broken};
+ghost use Rattle.mv_record.specs.Records.{StandsFor, WereTold, IsTold, is_broken, readers_of};
 ghost use Rattle.miss_notice.specs.Notes.{notes_by, notes_at};
+ghost use Rattle.miss_notice.specs.Marks.{mark_in, marked_by, AreLeft};
 ghost use Rattle.miss_notice.specs.Envelope2.{sent_by};
 
 use morty_base::{Key, List, NoMemory, Version, Wid, is_same_wid};
@@ -29,6 +30,14 @@ use std::alloc::Global;
 pub struct Envelope2 {
     pub client: u32,
     pub body: Body,
+}
+
+/// What the reader of a key at a version is told.
+#[derive(Clone, Copy)]
+struct Mark {
+    key: Key,
+    ver: Version,
+    held: Held,
 }
 
 /// The same write, value and certainty.
@@ -114,6 +123,54 @@ fn notes(alloc: Global, rec: &Records) -> Result<List<Envelope2>, NoMemory>
     Ok(out)
 }
 
+fn held_of(wid: Wid, value: i64, sure: bool) -> Held
+    ensures { result ≡ record { wid = wid; value = value; sure = sure } }
+{
+    Held { wid, value, sure }
+}
+
+/// What a Note tells its reader.
+fn mark_of(body: &Body) -> Option<Mark>
+    ensures { result ≡ mark_in body.now }
+{
+    match body {
+        Body::Note {
+            ver,
+            key,
+            wid,
+            value,
+            sure,
+            gone: _,
+        } => Some(Mark {
+            key: *key,
+            ver: *ver,
+            held: held_of(*wid, *value, *sure),
+        }),
+        _ => None,
+    }
+}
+
+/// The reader that a Note goes to was told what the Note tells.
+fn tell(rec: &mut Records, mark: Option<Mark>)
+    ensures stands { (firsts : List FirstValue) (h : Handled) → StandsFor firsts h rec.old → StandsFor firsts h rec.new }
+    ensures marks { (firsts : List FirstValue) (h : Handled) → StandsFor firsts h rec.old → readers_of rec.new ≡ map (marked_by mark) (readers_of rec.old) }
+{
+    match mark {
+        None => {}
+        Some(mark) => rec.mark(mark.key, mark.ver, mark.held),
+    }
+}
+
+/// Each reader that a Note goes to was told what the Note tells.
+fn tell_all(rec: &mut Records, notes: &[Envelope2])
+    ensures stands { (firsts : List FirstValue) (h : Handled) → StandsFor firsts h rec.old → StandsFor firsts h rec.new }
+    ensures told { (firsts : List FirstValue) (h : Handled) → StandsFor firsts h rec.old → AreLeft firsts h notes.now (readers_of rec.old) → WereTold firsts h rec.new }
+{
+    for note in notes {
+        tell(rec, mark_of(&note.body));
+    }
+}
+
 /// The Notes that are due, once the records stand for one envelope more than the readers were told of. All Notes come
 /// first, then all marks: a refusal leaves the records as they were.
 pub fn due_notes(alloc: Global, rec: &mut Records) -> Result<List<Envelope2>, NoMemory>
@@ -126,6 +183,7 @@ pub fn due_notes(alloc: Global, rec: &mut Records) -> Result<List<Envelope2>, No
         return Err(NoMemory);
     }
     let out = notes(alloc, rec)?;
+    tell_all(rec, out.as_slice());
     rec.settle();
     Ok(out)
 }

@@ -26,10 +26,8 @@ pub mod ReadsFrom
 pub mod ReadsLeft
 pub mod RisingLemmas
 pub mod Same
-pub mod SoFar
 pub mod Sorted
 pub mod TableOrder
-pub mod ToldKeys
 pub mod Unchanged
 pub mod UpTo
 pub mod Values

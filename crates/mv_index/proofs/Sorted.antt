@@ -3,7 +3,7 @@ use Rattle.std.proofs.Common.{◌≡◌, ◌⊎◌, inl, inr, ℕ, zero, suc, �
 use Rattle.std.specs.List.{insert, slice_get}
 use Rattle.morty_base.proofs.Orders.{same_key_tells, same_version_tells, key_before_total, before_total}
 use Rattle.protocol.specs.Words.{Version, Key, before, same_version, key_before, same_key}
-use Rattle.protocol.specs.Lists.{IsIn, IsRisingBy}
+use Rattle.protocol.specs.Lists.{IsIn, IsRisingBy, tally}
 use Rattle.protocol.proofs.TestLemmas.{and_left, and_right}
 use Rattle.mv_index.specs.declared.reader_list.Reader.{Reader}
 use Rattle.mv_index.specs.ReaderList.{prefix, stands_before, is_at, put_marked}
@@ -81,6 +81,20 @@ not_itself r e = elim (or_cases (key_before r.key r.key) (same_key r.key r.key &
 pub false_where : (b : Bool) → (b ≡ true → ⊥) → b ≡ false
 false_where true f = absurd (f refl)
 false_where false f = refl
+
+tally_none : {A : Type 0} (p : A → Bool) (xs : List A) → ((y : A) → IsIn y xs → p y ≡ false) → tally p xs ≡ 0
+tally_none p [] none = refl
+tally_none p (x ∷ xs) none = ap (λ t. cond t (suc (tally p xs)) (tally p xs)) (none x (inl refl)) ∙ tally_none p xs (λ y i. none y (inr i))
+
+-- where a test holds of all that stands before what it holds of, the first elements that pass are all that do
+pub prefix_tally : {A : Type 0} (earlier : A → A → Bool) (p : A → Bool) → ((x y : A) → earlier x y ≡ true → p y ≡ true → p x ≡ true) → (xs : List A) →
+    IsRisingBy earlier xs → prefix p xs ≡ tally p xs
+prefix_tally earlier p down [] r = refl
+prefix_tally earlier p down (x ∷ xs) r = go (p x) refl (prefix_tally earlier p down xs r.1)
+  where
+    go : (t : Bool) → p x ≡ t → prefix p xs ≡ tally p xs → cond t (suc (prefix p xs)) 0 ≡ cond t (suc (tally p xs)) (tally p xs)
+    go true e more = ap suc more
+    go false e more = sym (tally_none p xs (λ y i. false_where (p y) (λ f. cc (down x y (r.0 y i) f, e))))
 
 -- of two readers one stands before the other, or they are the same
 after_not : (r s : Reader) → stands_before r.key r.ver s ≡ true → stands_before s.key s.ver r ≡ false

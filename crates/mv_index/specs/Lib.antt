@@ -5,6 +5,7 @@ pub mod FirstValues
 pub mod HeldByExec
 pub mod Holdings
 pub mod KeyList
+pub mod Meanings
 pub mod OpenWrites
 pub mod Orders
 pub mod PutTable

@@ -1,8 +1,7 @@
 -- Readers with what they were told last.
-use Rattle.std.specs.Prelude.{◌≡◌, ℕ, suc, Bool, true, false, cond, ◌&&◌, ◌||◌, List, [], ◌∷◌, Option, Some, None}
-use Rattle.std.specs.List.{list_any}
+use Rattle.std.specs.Prelude.{ℕ, suc, Bool, true, false, cond, ◌&&◌, ◌||◌, List, [], ◌∷◌, Option, Some, None}
 use Rattle.protocol.specs.Words.{Version, Key, before, same_version, key_before, same_key}
-use Rattle.protocol.specs.Lists.{IsIn, IsRisingBy}
+use Rattle.protocol.specs.Lists.{IsRisingBy}
 use Rattle.protocol.specs.declared.Held.{Held}
 use Rattle.protocol.specs.Replica.Readers.{Reader as ReaderOf}
 use Rattle.mv_index.specs.declared.reader_list.Reader.{Reader}
@@ -34,18 +33,6 @@ put_marked r (s ∷ ss) =
 -- the reader of a key at a version was told this
 abbrev pub told_at : Key → Version → Held → Reader → Reader
 told_at k v a r = cond (same_key k r.key && same_version v r.ver) (record r { told = Some a }) r
-
--- the readers of a key were told what they see
-abbrev pub told_now : (Key → Version → Held) → Key → Reader → Reader
-told_now seen k r = cond (same_key k r.key) (record r { told = Some (seen r.key r.ver) }) r
-
--- the readers of some keys were told what they see
-abbrev pub told_in : (Key → Version → Held) → List Key → Reader → Reader
-told_in seen ks r = cond (list_any (λ k. same_key k r.key) ks) (record r { told = Some (seen r.key r.ver) }) r
-
--- the readers below version v were told what they see
-abbrev pub WereToldBelow : (Key → Version → Held) → Version → List Reader → Type 0
-WereToldBelow seen v rs = (r : Reader) → IsIn r rs → before r.ver v ≡ true → r.told ≡ Some (seen r.key r.ver)
 
 abbrev pub IsInOrder : List Reader → Type 0
 IsInOrder rs = IsRisingBy (λ r s. stands_before s.key s.ver r) rs

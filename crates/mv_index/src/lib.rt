@@ -19,7 +19,6 @@ mod key_list;
 mod put_table;
 mod read_index;
 mod reader_list;
-mod telling;
 mod write_index;
 
 pub use abandon_table::AbandonTable;
@@ -29,5 +28,4 @@ pub use key_list::KeyList;
 pub use put_table::{Put, PutTable};
 pub use read_index::ReadIndex;
 pub use reader_list::{Reader, ReaderList};
-pub use telling::tell_keys;
 pub use write_index::{Place, WriteIndex};

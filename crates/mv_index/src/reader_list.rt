@@ -3,6 +3,7 @@
 ghost use Rattle.std.specs.Prelude.{◌≡◌, ◌<◌, ◌≤◌, ◌&&◌, [], length, slice_get, slice_set, slice_index_or, map, filter, not, Some, None, OnOk};
 ghost use Rattle.morty_base.specs.Names.{before, key_before, same_key};
 ghost use Rattle.mv_index.specs.declared.reader_list.Reader.{Reader as MarkedReader};
+ghost use Rattle.protocol.specs.Lists.{tally};
 ghost use Rattle.mv_index.specs.ReaderList.{prefix, stands_before, is_at, put_marked, told_at, IsInOrder};
 
 use morty_base::{Key, NoMemory, Version, is_before, is_key_before, is_same_key, is_same_version};
@@ -126,8 +127,7 @@ impl ReaderList {
 
     /// How many readers are of keys below this one.
     pub fn first_of(&self, key: Key) -> usize
-        ensures within { result ≤ length self.now.readers.items }
-        ensures place { IsInOrder self.now.readers.items → result ≡ prefix (λ r. key_before r.key key) self.now.readers.items }
+        ensures { IsInOrder self.now.readers.items → result ≡ tally (λ r. key_before r.key key) self.now.readers.items }
     {
         self.readers
             .as_slice()

@@ -9,7 +9,7 @@ ghost use Rattle.protocol.specs.Replica.Held.{last_write};
 ghost use Rattle.mv_index.specs.WriteIndex.{write_at, held_at, IsLastBelow};
 ghost use Rattle.protocol.specs.Replica.Votes.{writes_key};
 
-use morty_base::{Exec, Key, NoMemory, Version, Wid, is_before};
+use morty_base::{Exec, Key, NoMemory, Version, Wid, is_before, is_same_key};
 use msg::Write;
 use protocol::Held;
 use std::alloc::Global;
@@ -112,22 +112,17 @@ impl WriteIndex {
         self.held.get(&Place { key, exec }).copied()
     }
 
-    /// The last write below a version.
+    /// The last write below a version: all that stands before a place of the key is of it or of a key before it.
     pub fn last_below(&self, key: Key, ver: Version) -> Option<Held>
         ensures { IsLastBelow ver (held_at self.now key) result }
     {
-        let zero = Version { ts: 0, client: 0 };
-        let least = Place {
-            key,
-            exec: Exec { ver: zero, eid: 0 },
-        };
         let end = Place {
             key,
             exec: Exec { ver, eid: 0 },
         };
-        match self.held.range(least..end).next_back() {
+        match self.held.range(..end).next_back() {
             None => None,
-            Some((_, held)) => Some(*held),
+            Some((place, held)) => is_same_key(key, place.key).then_some(*held),
         }
     }
 }

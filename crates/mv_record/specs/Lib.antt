@@ -1,3 +1,4 @@
 pub mod Clash
+pub mod Meanings
 pub mod Records
 pub mod Unseen

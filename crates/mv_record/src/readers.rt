@@ -6,12 +6,13 @@ ghost use Rattle.morty_base.specs.Names.{before, same_key, key_before};
 ghost use Rattle.msg.specs.declared.Body.TheVariants.{Get};
 ghost use Rattle.protocol.specs.declared.First2.{First2 as FirstValue};
 ghost use Rattle.protocol.specs.Replica.Taken.{Handled, dropped};
-ghost use Rattle.mv_index.specs.ReaderList.{prefix, put_marked, told_at};
+ghost use Rattle.protocol.specs.Lists.{tally};
+ghost use Rattle.mv_index.specs.ReaderList.{put_marked, told_at};
 
 use crate::records::{LAST, Records};
-use crate::touched::{earlier, either, listed_keys};
+use crate::touched::{earlier, either};
 use morty_base::{Key, NoMemory, Version};
-use mv_index::{Reader, tell_keys};
+use mv_index::Reader;
 use protocol::Held;
 
 impl Records {
@@ -106,12 +107,10 @@ impl Records {
         }
     }
 
-    /// Each reader of a listed key was told what it sees, and no key is listed any more.
+    /// Once each reader was told what it sees, no key is listed any more.
     pub fn settle(&mut self)
-        ensures { (firsts : List FirstValue) (h : Handled) → StandsFor firsts h self.old → StandsFor firsts h self.new × WereTold firsts h self.new × (listed self.new ≡ []) }
+        ensures { (firsts : List FirstValue) (h : Handled) → StandsFor firsts h self.old → WereTold firsts h self.old → StandsFor firsts h self.new × WereTold firsts h self.new × (listed self.new ≡ []) }
     {
-        let keys = listed_keys(self.all_touched, &self.reader_keys, &self.touched);
-        tell_keys(&mut self.readers, &self.holdings, keys, self.low);
         self.all_touched = false;
         self.low = LAST;
         self.touched.clear();
@@ -119,7 +118,7 @@ impl Records {
 
     /// How many readers are of keys below this one.
     pub fn first_reader(&self, key: Key) -> usize
-        ensures { (firsts : List FirstValue) (h : Handled) → StandsFor firsts h self.now → result ≡ prefix (λ r. key_before r.key key) (readers_of self.now) }
+        ensures { (firsts : List FirstValue) (h : Handled) → StandsFor firsts h self.now → result ≡ tally (λ r. key_before r.key key) (readers_of self.now) }
     {
         self.readers.first_of(key)
     }

@@ -1,6 +1,6 @@
 //! The keys of which what is seen may have changed since the Notes were last looked for.
 
-ghost use Rattle.std.specs.Prelude.{◌≡◌, ◌||◌, not, true, cond, List, OnOk};
+ghost use Rattle.std.specs.Prelude.{◌≡◌, ◌||◌, not, true, List, OnOk};
 ghost use Rattle.protocol.specs.Replica.Taken.{Handled, dropped};
 ghost use Rattle.protocol.specs.Replica.Held.{kept_put};
 ghost use Rattle.protocol.specs.declared.First2.{First2 as FirstValue};
@@ -26,21 +26,6 @@ pub(crate) fn earlier(low: Version, ver: Version) -> Version
     ensures { result ≡ earlier_of low ver }
 {
     if is_before(ver, low) { ver } else { low }
-}
-
-/// The keys that are listed: once all may have changed, each key with a reader.
-pub(crate) fn listed_keys<'a>(
-    all: bool,
-    reader_keys: &'a KeyList,
-    touched: &'a KeyList,
-) -> &'a [Key]
-    ensures { result.now ≡ cond all reader_keys.now.keys.items touched.now.keys.items }
-{
-    if all {
-        reader_keys.as_slice()
-    } else {
-        touched.as_slice()
-    }
 }
 
 /// The keys of these writes are listed from now on.

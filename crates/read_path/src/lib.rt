@@ -1,7 +1,7 @@
 //! Reads and writes that come to a replica.
 #![tactic(auto)]
 
-ghost use Rattle.std.specs.Prelude.{◌≡◌, List, ◌∷◌, [], ◌≤◌, cond, not, length, IfOk, OnOk, IsErr, IsTrue};
+ghost use Rattle.std.specs.Prelude.{◌≡◌, List, ◌∷◌, [], ◌≤◌, cond, not, length, IfOk, OnOk, OnErr, IsErr, IsTrue};
 ghost use Rattle.morty_base.specs.declared.names.NodeId.{NodeId as NodeValue};
 ghost use Rattle.msg.specs.declared.Body.TheVariants.{Get, Puts};
 ghost use Rattle.protocol.specs.declared.First2.{First2 as FirstValue};
@@ -58,6 +58,7 @@ pub fn on_get(rec: &mut Records, exec: Exec, key: Key, dropped: Version) -> Resu
     ensures stands { (firsts : List FirstValue) (h : Handled) (from to : NodeValue) → StandsFor firsts h rec.old → dropped ≡ dropped_of h → OnOk result (StandsFor firsts (after_taking h (record { from = from; to = to; body = Get exec key })) rec.new) }
     ensures told { (firsts : List FirstValue) (h : Handled) → StandsFor firsts h rec.old → WereTold firsts h rec.old → dropped ≡ dropped_of h → OnOk result (WereTold firsts h rec.new) }
     ensures broken { IsTrue (is_broken rec.old) → IsErr result }
+    ensures breaks { OnErr result (IsTrue (is_broken rec.new)) }
 {
     if rec.is_broken() {
         return Err(NoMemory);
@@ -86,6 +87,7 @@ pub fn on_puts(
     ensures stands { (firsts : List FirstValue) (h : Handled) (from to : NodeValue) → StandsFor firsts h rec.old → dropped ≡ dropped_of h → OnOk result (StandsFor firsts (after_taking h (record { from = from; to = to; body = Puts exec writes.now })) rec.new) }
     ensures told { (firsts : List FirstValue) (h : Handled) → WereTold firsts h rec.old → OnOk result (WereTold firsts h rec.new) }
     ensures broken { IsTrue (is_broken rec.old) → IsErr result }
+    ensures breaks { OnErr result (IsTrue (is_broken rec.new)) }
 {
     if rec.is_broken() {
         return Err(NoMemory);
