@@ -41,6 +41,16 @@ pub const SOUND: Outside<'static> = Outside {
     writes: &[],
 };
 
+/// Lines, each with its line feed.
+pub fn joined(alloc: Global, lines: &[&[u8]]) -> Result<List<u8>, NoMemory> {
+    let mut text = List::new(alloc);
+    for line in lines {
+        text.extend_from_slice(*line)?;
+        text.push(b'\n')?;
+    }
+    Ok(text)
+}
+
 /// Calls the program over memory.
 pub fn call(
     alloc: Global,
