@@ -1,5 +1,5 @@
 -- A client with one transaction, beside the code of its program.
-use Rattle.std.specs.Prelude.{◌≡◌, ◌<◌, length, [], ◌∷◌}
+use Rattle.std.specs.Prelude.{◌≡◌, [], ◌∷◌}
 use Rattle.flat_code.specs.Operation.{Flat}
 use Rattle.protocol.specs.Client.State as protocol
 use Rattle.protocol.specs.Client.State.{ClientState}
@@ -7,11 +7,10 @@ use Rattle.execution.specs.Execution.{Loaded}
 use Rattle.coordinator.specs.Coordinator.{StandsFor}
 use Rattle.coordinator.specs.declared.coordinator.Coordinator.{Coordinator}
 
--- the coordinator stands for a client that has a transaction, and whose one program has this code
+-- the coordinator stands for a client whose one program has this code
 pub record Runs (code : Flat) (s : Coordinator) : Type 0 where
   pub loaded : Loaded
   pub runs : loaded.code ≡ code
   pub rules : protocol.Rules
-  pub some : 0 < length rules.txns
   pub state : ClientState
   pub stands : StandsFor (record { rules = rules; programs = loaded ∷ [] }) state s

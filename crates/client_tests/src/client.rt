@@ -80,9 +80,6 @@ impl Client {
         let Some(job) = self.coordinator.job(alloc)? else {
             return Ok(());
         };
-        if job.prog != 0 {
-            return Ok(());
-        }
         let codes = vec![in alloc; self.code.share()?]?;
         let done = run_job(alloc, codes.as_slice(), job, &mut Steps::<()>::new())?;
         self.coordinator.ran(alloc, &done, out)?;

@@ -16,7 +16,7 @@ use Rattle.coordinator.specs.declared.memory.Proposed.{Proposed}
 use Rattle.coordinator.specs.declared.memory.Ballot.{Ballot}
 use Rattle.coordinator.specs.declared.memory.Stage.TheVariants as stage
 use Rattle.coordinator.specs.declared.memory.Memory.{Memory}
-use Rattle.coordinator.specs.Memory.{Given, StandsFor, accepts_of, choice_of}
+use Rattle.coordinator.specs.Memory.{Given, HasBegun, StandsFor, accepts_of, choice_of}
 use Rattle.coordinator.specs.Counting.{Leaves, chosen}
 use Rattle.coordinator.proofs.DecidingLemmas.{IsPrepared}
 use Rattle.coordinator.proofs.CountingLemmas.{leaves_all, prepared_here, replicas_are, same_stage}
@@ -107,8 +107,10 @@ stands_accepted : (g : Given) (c : ClientState) (m : Memory) (content : Content)
 stands_accepted g c m content votes proposal accepts b q j s p stood = record {
   rules = s.rules;
   limits = s.limits;
+  programs = s.programs;
   course = s.course;
   within = s.within;
+  started = subst (λ x. HasBegun x m.course) p.at s.started;
   answers = s.answers;
   execution = s.execution;
   phase = rw (p.content, p.votes) refl;

@@ -17,6 +17,7 @@ use Rattle.coordinator.specs.declared.memory.Course.{Course}
 use Rattle.coordinator.specs.declared.memory.Memory.{Memory}
 use Rattle.coordinator.specs.Memory.{Given, StandsFor, txn_in, current, start_in, due_version, begun_memory}
 use Rattle.execution.specs.Execution.{Loaded}
+use Rattle.coordinator.proofs.MemoryLemmas.{begun_before}
 use Rattle.std.specs.Bool.{then_some}
 use Rattle.protocol.specs.Client.Step.{client_step}
 use Rattle.protocol.specs.Client.Step.Input.{Goes}
@@ -60,13 +61,14 @@ version_is g c m begun attempt s few =
     rw (a, b, l, first, last, gap, client) refl
 
 -- an attempt begins within the limits
-pub stands_begun : (g : Given) (c : ClientState) (m : Memory) (begun attempt : ℕ) → StandsFor g c m → begun ≤ length m.plan.txns → attempt ≤ 8 →
+pub stands_begun : (g : Given) (c : ClientState) (m : Memory) (begun attempt : ℕ) → StandsFor g c m → 0 < begun → begun ≤ length m.plan.txns → attempt ≤ 8 →
     m.course.exec.ver.ts + 1 ≤ 1000008000000 + 8 * begun + attempt →
     execution.StandsFor (current g.programs m.plan begun) fresh_execution → StandsFor g (begin g.rules c begun attempt) (begun_memory m begun attempt)
 unfolding begin
-stands_begun g c m begun attempt s there few late fresh = record {
+stands_begun g c m begun attempt s some there few late fresh = record {
   rules = s.rules;
   limits = s.limits;
+  programs = s.programs;
   course =
       ap (λ (v : Version). record { begun = begun; attempt = attempt; exec = record { ver = v; eid = 0 }; serial = bumped c.serial; fate = Live })
       (version_is g c m begun attempt s few)
@@ -80,6 +82,7 @@ stands_begun g c m begun attempt s there few late fresh = record {
         let delay : (attempt - 1) * m.plan.rules.gap ≤ 7 * 1000000 = mul-le-mul less s.limits.gap in
         omega arith;
   };
+  started = some;
   answers = refl;
   execution = fresh;
   phase = refl;
@@ -111,6 +114,7 @@ stands_again g c m attempt s again is fresh =
     let begun : c.begun ≡ m.course.begun = ap (λ (k : Course). k.begun) s.course in
     let tries : g.rules.tries ≡ m.plan.rules.tries = ap (λ (r : protocol.Rules). r.tries) s.rules in
     let left = below c.try g.rules.tries (both (is_aborted c.fate) (nat_lt c.try g.rules.tries) again).1 in
+    let some = begun_before g c m s (both (is_aborted c.fate) (nat_lt c.try g.rules.tries) again).0 in
     let most = s.limits.tries in
     let late = s.within.ts in
     let one : attempt ≡ c.try + 1 = omega (arith, is) in
@@ -119,7 +123,7 @@ stands_again g c m attempt s again is fresh =
     subst (λ t. StandsFor g (cond t (begin g.rules c c.begun (c.try + 1)) (begin g.rules c (c.begun + 1) 1)) (begun_memory m m.course.begun attempt)) (sym again)
     (subst (λ n. StandsFor g (begin g.rules c n (c.try + 1)) (begun_memory m m.course.begun attempt)) (sym begun)
     (subst (λ n. StandsFor g (begin g.rules c m.course.begun n) (begun_memory m m.course.begun attempt)) one
-    (stands_begun g c m m.course.begun attempt s s.within.begun few later fresh)))
+    (stands_begun g c m m.course.begun attempt s some s.within.begun few later fresh)))
 
 -- the next transaction
 pub stands_next : (g : Given) (c : ClientState) (m : Memory) (begun : ℕ) → StandsFor g c m → tries_again g.rules c ≡ false → can_go g.rules c ≡ true →
@@ -133,13 +137,14 @@ stands_next g c m begun s not_again may is fresh =
     let all = s.limits.few in
     let one : begun ≡ c.begun + 1 = omega (arith, is) in
     let there : begun ≤ length m.plan.txns = omega arith in
+    let some : 0 < begun = omega (arith, one) in
     let late = s.within.ts in
     let tried = s.within.attempt in
     let few : 1 ≤ 8 = omega arith in
     let later : m.course.exec.ver.ts + 1 ≤ 1000008000000 + 8 * begun + 1 = omega arith in
     subst (λ t. StandsFor g (cond t (begin g.rules c c.begun (c.try + 1)) (begin g.rules c (c.begun + 1) 1)) (begun_memory m begun 1)) (sym not_again)
     (subst (λ n. StandsFor g (begin g.rules c n 1) (begun_memory m begun 1)) one
-    (stands_begun g c m begun 1 s there few later fresh))
+    (stands_begun g c m begun 1 s some there few later fresh))
 
 -- the step of a client that begins an attempt
 pub goes : (r : protocol.Rules) (c : ClientState) (t : protocol.Turn) → client_step r c Goes ≡ Some t → (can_go r c ≡ true) × (t ≡ go r c)

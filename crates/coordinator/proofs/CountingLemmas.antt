@@ -10,7 +10,7 @@ use Rattle.coordinator.specs.declared.memory.Ballot.{Ballot}
 use Rattle.coordinator.specs.declared.memory.Stage.{Stage}
 use Rattle.coordinator.specs.declared.memory.Stage.TheVariants as stage
 use Rattle.coordinator.specs.declared.memory.Memory.{Memory}
-use Rattle.coordinator.specs.Memory.{Given, StandsFor, Takes}
+use Rattle.coordinator.specs.Memory.{Given, HasBegun, StandsFor, Takes}
 use Rattle.coordinator.specs.Counting.{Leaves}
 use Rattle.coordinator.proofs.DecidingLemmas.{IsPrepared, exec_is, prepared_so}
 
@@ -52,8 +52,10 @@ proposes g c m m' content votes proposal accepts choice k out s is same put sent
       state = record {
         rules = s.rules;
         limits = s.limits;
+        programs = s.programs;
         course = s.course;
         within = s.within;
+        started = subst (λ x. HasBegun x m.course) p.1.at s.started;
         answers = s.answers;
         execution = s.execution;
         phase = rw (p.1.content, p.1.votes) refl;

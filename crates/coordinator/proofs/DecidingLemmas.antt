@@ -1,5 +1,5 @@
 -- What follows from a decision is what the definitions say.
-use Rattle.std.proofs.Common.{◌≡◌, ℕ, ◌+◌, ◌^◌, ◌-◌, min, Bool, true, false, List, [], ◌∷◌, ◌++◌, map, Option, None, refl, ap, sym, subst, ◌∙◌, arith}
+use Rattle.std.proofs.Common.{◌≡◌, ℕ, ◌+◌, ◌^◌, ◌-◌, min, Bool, true, false, List, [], ◌∷◌, ◌++◌, map, Option, None, inr, refl, ap, sym, subst, ◌∙◌, arith}
 use Rattle.std.specs.Prelude.{nat_lt, ◌&&◌}
 use Rattle.std.specs.List.{list_any}
 use Rattle.exec_log.specs.Log.{ending_by}
@@ -10,7 +10,7 @@ use Rattle.protocol.specs.declared.Fate.TheVariants.{Committed, Aborted}
 use Rattle.protocol.specs.Client.State as protocol
 use Rattle.protocol.specs.Client.State.{Answer, ClientState, CountedVote, Phase, Turn, Walk, may_put, walk}
 use Rattle.protocol.specs.Client.State.Phase.{Between, Running, Prepared}
-use Rattle.protocol.specs.Client.Attempts.{bumped, prepare_if_ready}
+use Rattle.protocol.specs.Client.Attempts.{bumped, is_between, prepare_if_ready}
 use Rattle.protocol.specs.Client.Deciding.{conclude, cut, ended, give_up, is_change, moved_on, next_exec, next_execution, noted, other_value, puts_again, relabelled, rewound}
 use Rattle.execution.specs.Execution as execution
 use Rattle.execution.specs.Execution.{answers_of, is_pending, shown}
@@ -22,6 +22,7 @@ use Rattle.coordinator.specs.declared.memory.Stage.TheVariants as stage
 use Rattle.coordinator.specs.declared.memory.Memory.{Memory}
 use Rattle.coordinator.specs.Memory.{Given, Holds, StandsFor, Takes, accepts_of, choice_of, current, phase_of, rerun_memory}
 use Rattle.coordinator.proofs.AttemptLemmas.{below, least}
+use Rattle.coordinator.proofs.MemoryLemmas.{begun_under_way}
 use Rattle.coordinator.proofs.SegmentLemmas.{walk_now}
 
 -- a decision is remembered for ever, and no rule reads it
@@ -29,8 +30,10 @@ pub stands_noted : (g : Given) (c : ClientState) (m : Memory) (d : Choice) → S
 stands_noted g c m d s = record {
   rules = s.rules;
   limits = s.limits;
+  programs = s.programs;
   course = s.course;
   within = s.within;
+  started = s.started;
   answers = s.answers;
   execution = s.execution;
   phase = s.phase;
@@ -38,13 +41,15 @@ stands_noted g c m d s = record {
 }
 
 -- the attempt ends
-pub stands_ended : (g : Given) (c : ClientState) (m : Memory) (f : Fate) → StandsFor g c m →
+pub stands_ended : (g : Given) (c : ClientState) (m : Memory) (f : Fate) → StandsFor g c m → is_between c.phase ≡ false →
     StandsFor g (ended c f) (record m { course = record m.course { fate = f }; stage = stage.Between })
-stands_ended g c m f s = record {
+stands_ended g c m f s way = record {
   rules = s.rules;
   limits = s.limits;
+  programs = s.programs;
   course = ap (λ (k : Course). record k { fate = f }) s.course;
   within = record { begun = s.within.begun; attempt = s.within.attempt; ts = s.within.ts };
+  started = inr (begun_under_way g c m s way);
   answers = s.answers;
   execution = s.execution;
   phase = refl;
@@ -54,11 +59,12 @@ stands_ended g c m f s = record {
 pub exec_is : (g : Given) (c : ClientState) (m : Memory) → StandsFor g c m → c.exec ≡ m.course.exec
 exec_is g c m s = ap (λ (k : Course). k.exec) s.course
 
-pub gives_up : (g : Given) (c : ClientState) (m : Memory) (out : List Body) → StandsFor g c m → out ≡ Decide m.course.exec Abandon None ∷ [] →
+pub gives_up : (g : Given) (c : ClientState) (m : Memory) (out : List Body) → StandsFor g c m → is_between c.phase ≡ false →
+    out ≡ Decide m.course.exec Abandon None ∷ [] →
     Takes g (give_up c) (record m { course = record m.course { fate = Aborted }; stage = stage.Between }) out
 unfolding give_up
-gives_up g c m out s is = record {
-  state = stands_ended g (noted c Abandon) m Aborted (stands_noted g c m Abandon s);
+gives_up g c m out s way is = record {
+  state = stands_ended g (noted c Abandon) m Aborted (stands_noted g c m Abandon s) way;
   sent = is ∙ ap (λ x. Decide x Abandon None ∷ []) (sym (exec_is g c m s));
 }
 
@@ -97,18 +103,21 @@ more_is g c m s more =
     least (m.course.exec.eid + 1) (2 ^ 32 - 1) (omega arith)
 
 -- it runs again from a changed answer
-pub stands_rewound : (g : Given) (c : ClientState) (m : Memory) (e : Execution) (answers : List Answer) → StandsFor g c m → nat_lt (c.exec.eid + 1) g.rules.execs ≡ true →
+pub stands_rewound : (g : Given) (c : ClientState) (m : Memory) (e : Execution) (answers : List Answer) → StandsFor g c m → is_between c.phase ≡ false →
+    nat_lt (c.exec.eid + 1) g.rules.execs ≡ true →
     execution.StandsFor (current g.programs m.plan m.course.begun) e → answers ≡ answers_of e → is_pending e ≡ true → e.nexts ≡ [] →
     StandsFor g (rewound c answers)
     (record m { execution = e; stage = stage.Running false; course = record m.course { exec = record { ver = m.course.exec.ver; eid = min (m.course.exec.eid + 1) (2 ^ 32 - 1) }; serial = bumped m.course.serial } })
 unfolding rewound
-stands_rewound g c m e answers s more follows are pending nexts = record {
+stands_rewound g c m e answers s way more follows are pending nexts = record {
   rules = s.rules;
   limits = s.limits;
+  programs = s.programs;
   course =
       ap (λ (k : Course). record k { exec = next_exec k.exec; serial = bumped k.serial }) s.course
       ∙ ap (λ n. record m.course { exec = record { ver = m.course.exec.ver; eid = n }; serial = bumped m.course.serial }) (sym (more_is g c m s more));
   within = record { begun = s.within.begun; attempt = s.within.attempt; ts = s.within.ts };
+  started = begun_under_way g c m s way;
   answers = are;
   execution = follows;
   phase = ap (λ b. Running b false) (sym pending);
@@ -116,17 +125,20 @@ stands_rewound g c m e answers s more follows are pending nexts = record {
 }
 
 -- it keeps its values, and so its ending
-pub stands_relabelled : (g : Given) (c : ClientState) (m : Memory) (e : Execution) → StandsFor g c m → nat_lt (c.exec.eid + 1) g.rules.execs ≡ true →
+pub stands_relabelled : (g : Given) (c : ClientState) (m : Memory) (e : Execution) → StandsFor g c m → is_between c.phase ≡ false →
+    nat_lt (c.exec.eid + 1) g.rules.execs ≡ true →
     execution.StandsFor (current g.programs m.plan m.course.begun) e → answers_of e ≡ map moved_on (answers_of m.execution) → is_pending e ≡ false → e.nexts ≡ [] →
     StandsFor g (relabelled c) (rerun_memory (record m { execution = e }))
 unfolding relabelled
-stands_relabelled g c m e s more follows are still nexts = record {
+stands_relabelled g c m e s way more follows are still nexts = record {
   rules = s.rules;
   limits = s.limits;
+  programs = s.programs;
   course =
       ap (λ (k : Course). record k { exec = next_exec k.exec }) s.course
       ∙ ap (λ n. record m.course { exec = record { ver = m.course.exec.ver; eid = n } }) (sym (more_is g c m s more));
   within = record { begun = s.within.begun; attempt = s.within.attempt; ts = s.within.ts };
+  started = begun_under_way g c m s way;
   answers = ap (map moved_on) s.answers ∙ sym are;
   execution = follows;
   phase = ap (λ b. Running b false) (sym still);
@@ -160,15 +172,16 @@ next_kept g c m m' sent bodies out other s still is takes =
 
 -- ---- what follows from a decision
 
-pub concludes_commit : (g : Given) (c : ClientState) (m : Memory) (sent : List Body) → StandsFor g c m →
+pub concludes_commit : (g : Given) (c : ClientState) (m : Memory) (sent : List Body) → StandsFor g c m → is_between c.phase ≡ false →
     Takes g (conclude g.rules c ToCommit sent) (record m { course = record m.course { fate = Committed }; stage = stage.Between }) sent
 unfolding conclude
-concludes_commit g c m sent s = record { state = stands_ended g (noted c ToCommit) m Committed (stands_noted g c m ToCommit s); sent = refl }
+concludes_commit g c m sent s way = record { state = stands_ended g (noted c ToCommit) m Committed (stands_noted g c m ToCommit s) way; sent = refl }
 
-pub concludes_abort : (g : Given) (c : ClientState) (m : Memory) (sent : List Body) → StandsFor g c m → (list_any is_change c.answers && nat_lt (c.exec.eid + 1) g.rules.execs) ≡ false →
+pub concludes_abort : (g : Given) (c : ClientState) (m : Memory) (sent : List Body) → StandsFor g c m → is_between c.phase ≡ false →
+    (list_any is_change c.answers && nat_lt (c.exec.eid + 1) g.rules.execs) ≡ false →
     Takes g (conclude g.rules c Abandon sent) (record m { course = record m.course { fate = Aborted }; stage = stage.Between }) sent
 unfolding conclude
-concludes_abort g c m sent s e = rw e (record { state = stands_ended g (noted c Abandon) m Aborted (stands_noted g c m Abandon s); sent = refl })
+concludes_abort g c m sent s way e = rw e (record { state = stands_ended g (noted c Abandon) m Aborted (stands_noted g c m Abandon s) way; sent = refl })
 
 pub concludes_next : (g : Given) (c : ClientState) (m' : Memory) (sent out : List Body) → (list_any is_change c.answers && nat_lt (c.exec.eid + 1) g.rules.execs) ≡ true →
     Takes g (next_execution g.rules (noted c Abandon) sent) m' out → Takes g (conclude g.rules c Abandon sent) m' out

@@ -5,6 +5,7 @@ use Rattle.protocol.specs.declared.Fate.TheVariants.{Committed, Aborted}
 use Rattle.protocol.specs.Client.State as protocol
 use Rattle.protocol.specs.Client.State.{ClientState, CountedVote, Turn, idle, turn_when}
 use Rattle.protocol.specs.Client.State.Phase.{Between, Running, Prepared}
+use Rattle.protocol.specs.Client.Attempts.{is_between}
 use Rattle.protocol.specs.Client.Deciding.{noted}
 use Rattle.protocol.specs.Client.Step.{client_step, comes, comes_prepared, comes_running, told_running}
 use Rattle.protocol.specs.Client.Step.Input.{Comes}
@@ -56,10 +57,10 @@ takes_idle g c m t out s same is = subst (λ (u : Turn). Takes g u m out) (sym s
 
 -- ---- a warden's decision ends an attempt that runs
 
-pub tells : (g : Given) (c : ClientState) (m : Memory) (d : Choice) (out : List Body) → StandsFor g c m → out ≡ [] →
+pub tells : (g : Given) (c : ClientState) (m : Memory) (d : Choice) (out : List Body) → StandsFor g c m → is_between c.phase ≡ false → out ≡ [] →
     Takes g (told_running c d) (record m { course = record m.course { fate = fate_of d }; stage = stage.Between }) out
-tells g c m ToCommit out s is = record { state = stands_ended g (noted c ToCommit) m Committed (stands_noted g c m ToCommit s); sent = is }
-tells g c m Abandon out s is = record { state = stands_ended g (noted c Abandon) m Aborted (stands_noted g c m Abandon s); sent = is }
+tells g c m ToCommit out s way is = record { state = stands_ended g (noted c ToCommit) m Committed (stands_noted g c m ToCommit s) way; sent = is }
+tells g c m Abandon out s way is = record { state = stands_ended g (noted c Abandon) m Aborted (stands_noted g c m Abandon s) way; sent = is }
 
 -- ---- by stage
 

@@ -8,7 +8,7 @@ use Rattle.protocol.specs.Words.{Wid, Key, Body}
 use Rattle.protocol.specs.declared.Held.{Held}
 use Rattle.protocol.specs.Client.State.{Answer, ClientState, Walk, idle, walk}
 use Rattle.protocol.specs.Client.State.Phase.{Running}
-use Rattle.protocol.specs.Client.Attempts.{bumped, has_pending, prepare_if_ready}
+use Rattle.protocol.specs.Client.Attempts.{bumped, has_pending, is_between, prepare_if_ready}
 use Rattle.protocol.specs.Client.Deciding.{give_up, rewound}
 use Rattle.protocol.specs.Client.Following.{answer_at, answered, answers_question, effect, follow_running, no_answer, note_at, note_on, note_running, place_of, prepare_if_idle, rewind, surely, with_answer}
 use Rattle.protocol.specs.Client.Following.{Effect}
@@ -22,6 +22,7 @@ use Rattle.coordinator.specs.declared.memory.Course.{Course}
 use Rattle.coordinator.specs.declared.memory.Stage.TheVariants as stage
 use Rattle.coordinator.specs.declared.memory.Memory.{Memory}
 use Rattle.coordinator.specs.Memory.{Given, StandsFor, Takes, current}
+use Rattle.coordinator.proofs.MemoryLemmas.{begun_under_way}
 use Rattle.coordinator.proofs.SegmentLemmas.{keys_now, runs_bare, runs_so, walk_now}
 
 pub stays : (g : Given) (c : ClientState) (m : Memory) (out : List Body) → StandsFor g c m → out ≡ [] → Takes g (idle c) m out
@@ -50,8 +51,10 @@ stands_followed g c m e i new p q s runs value bare follows answers next nexts =
     record {
       rules = s.rules;
       limits = s.limits;
+      programs = s.programs;
       course = s.course;
       within = s.within;
+      started = s.started;
       answers =
           ap (λ l. set l i (record { label = new; next = None })) s.answers
           ∙ ap (λ v. set (answers_of m.execution) i (record { label = record { wid = new.wid; value = v; sure = new.sure }; next = None }))
@@ -71,8 +74,10 @@ pub stands_given : (g : Given) (c : ClientState) (m : Memory) (e : Execution) (n
 stands_given g c m e new p q s runs follows answers pending nexts = record {
   rules = s.rules;
   limits = s.limits;
+  programs = s.programs;
   course = ap (λ (k : Course). record k { serial = bumped k.serial }) s.course;
   within = record { begun = s.within.begun; attempt = s.within.attempt; ts = s.within.ts };
+  started = begun_under_way g c m s (ap is_between runs);
   answers = ap (λ l. l ++ record { label = new; next = None } ∷ []) s.answers ∙ sym answers;
   execution = follows;
   phase = ap (λ b. Running b true) (sym pending);

@@ -1,6 +1,7 @@
 pub mod MemoryLemmas
 pub mod AttemptLemmas
 pub mod SegmentLemmas
+pub mod JobLemmas
 pub mod StepLemmas
 pub mod DecidingLemmas
 pub mod CountingLemmas

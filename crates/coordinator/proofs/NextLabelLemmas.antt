@@ -27,8 +27,10 @@ stands_next g c m e i new content votes proposal accepts s is follows answers lo
     record {
       rules = s.rules;
       limits = s.limits;
+      programs = s.programs;
       course = s.course;
       within = s.within;
+      started = s.started;
       answers = ap (λ l. set l i (record { label = (get_or l i no_answer).label; next = Some new })) s.answers ∙ sym answers;
       execution = follows;
       phase = s.phase ∙ rw p.1.at refl;
@@ -54,8 +56,10 @@ pub stays_unsure : (g : Given) (c : ClientState) (m : Memory) (i : ℕ) (new : H
 stays_unsure g c m i new s none = record {
   rules = s.rules;
   limits = s.limits;
+  programs = s.programs;
   course = s.course;
   within = s.within;
+  started = s.started;
   answers =
       ap (λ n. set c.answers i (record { label = (answer_at c i).label; next = option_map surely n })) none
       ∙ ap (λ n. set c.answers i (record { label = (answer_at c i).label; next = n })) (sym none)

@@ -11,7 +11,7 @@ use Rattle.protocol.specs.Lists.{one_when}
 use Rattle.protocol.specs.Client.State as protocol
 use Rattle.protocol.specs.Client.State.{Answer, ClientState, Phase, Turn, Walk, content, is_done, may_put, reads_of, values, walk, walk_at}
 use Rattle.protocol.specs.Client.State.Phase.{Between, Running, Prepared}
-use Rattle.protocol.specs.Client.Attempts.{front, prepare_if_ready, prepare_when, question, ran, wrote}
+use Rattle.protocol.specs.Client.Attempts.{front, is_between, prepare_if_ready, prepare_when, question, ran, wrote}
 use Rattle.execution.specs.Execution as execution
 use Rattle.execution.specs.Execution.{Loaded, answers_of, content_of, is_pending, keys_of, shown, walk_of}
 use Rattle.execution.specs.declared.execution.Execution.{Execution}
@@ -25,7 +25,7 @@ use Rattle.coordinator.specs.declared.memory.Stage.TheVariants as stage
 use Rattle.coordinator.specs.declared.memory.Memory.{Memory}
 use Rattle.coordinator.specs.Memory.{Given, Holds, StandsFor, Takes, current, phase_of}
 use Rattle.vote_tally.specs.Tally.{Counted}
-use Rattle.coordinator.proofs.MemoryLemmas.{walk_is}
+use Rattle.coordinator.proofs.MemoryLemmas.{begun_under_way, walk_is}
 use Rattle.coordinator.proofs.AttemptLemmas.{least}
 
 -- a client that runs is at that stage
@@ -91,8 +91,10 @@ stands_prepared g c m given how b sent out k s runs ends is copy tally proposal 
       state = record {
         rules = s.rules;
         limits = s.limits;
+        programs = s.programs;
         course = s.course;
         within = s.within;
+        started = begun_under_way g c m s (ap is_between runs);
         answers = s.answers;
         execution = s.execution;
         phase = rw (same, tally, proposal) refl;
@@ -147,14 +149,16 @@ ended_so None b h = absurd (cc)
 ended_so (Some e) b h = refl
 
 -- the memory with the segment of its job
-pub stands_ran : (g : Given) (c : ClientState) (m : Memory) (e : Execution) (n : Next) → StandsFor g c m → m.execution.nexts ≡ [] →
+pub stands_ran : (g : Given) (c : ClientState) (m : Memory) (e : Execution) (n : Next) → StandsFor g c m → is_between c.phase ≡ false → m.execution.nexts ≡ [] →
     execution.StandsFor (current g.programs m.plan m.course.begun) e → answers_of e ≡ answers_of m.execution → e.log.next ≡ Some n → e.nexts ≡ m.execution.nexts →
     StandsFor g (record c { phase = Running false true }) (record m { execution = e; stage = stage.Running true })
-stands_ran g c m e n s bare follows answers next nexts = record {
+stands_ran g c m e n s way bare follows answers next nexts = record {
   rules = s.rules;
   limits = s.limits;
+  programs = s.programs;
   course = s.course;
   within = s.within;
+  started = begun_under_way g c m s way;
   answers = s.answers ∙ sym answers;
   execution = follows;
   phase = ap (λ o. Running (is_none o) true) (sym next);

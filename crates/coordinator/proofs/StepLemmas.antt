@@ -1,7 +1,6 @@
 -- The steps of a client, and what a coordinator that took one is.
-use Rattle.std.proofs.Common.{◌≡◌, ℕ, Bool, true, false, cond, List, ◌++◌, Some, None, refl, ap, sym, ◌∙◌}
-use Rattle.std.specs.Prelude.{◌&&◌, ◌==◌, ◌-◌, flat_map, slice_get}
-use Rattle.continuation.specs.declared.segment.Job.{Job}
+use Rattle.std.proofs.Common.{◌≡◌, ℕ, Bool, true, false, List, ◌++◌, Some, None, refl, ap, sym, ◌∙◌}
+use Rattle.std.specs.Prelude.{flat_map}
 use Rattle.protocol.specs.Words.{Body, Client, Content, Envelope}
 use Rattle.protocol.specs.Client.Counting.{hurried, propose}
 use Rattle.protocol.specs.Client.State as protocol
@@ -11,7 +10,7 @@ use Rattle.protocol.specs.Client.Attempts.{ran}
 use Rattle.protocol.specs.Client.Step.{client_step, on_hurry, on_ran}
 use Rattle.protocol.specs.Client.Step.Input.{Runs, Hurries}
 use Rattle.protocol.specs.World.Events.{to_all}
-use Rattle.coordinator.specs.Memory.{Given, Takes, awaits, is_awaiting, pending_job, prog_of}
+use Rattle.coordinator.specs.Memory.{Given, Takes}
 use Rattle.coordinator.specs.Coordinator.{Does}
 use Rattle.coordinator.specs.declared.memory.Memory.{Memory}
 
@@ -26,18 +25,6 @@ runs_step r c t e = case c.phase refl e
     case (Running true given) is e = (given, is, let same : ran r c given ≡ t = cc in sym same)
     case (Running false given) is e = absurd (cc)
     case (Prepared content votes proposal accepts) is e = absurd (cc)
-
-first_true : (a b : Bool) → (a && b) ≡ true → a ≡ true
-first_true true b e = refl
-first_true false b e = cc
-
--- the pending job begins where the execution's last one does
-pub job_begins : (m : Memory) (j : Job) → awaits m j.serial ≡ true → pending_job m ≡ Some j → j.at ≡ m.execution.job
-job_begins m j waits is = go (is_awaiting m) (first_true (is_awaiting m) (j.serial == m.course.serial) waits) is
-  where
-    go : (b : Bool) → b ≡ true → cond b (Some (record { client = m.plan.client; prog = prog_of (slice_get m.plan.txns (m.course.begun - 1)); serial = m.course.serial; at = m.execution.job })) None ≡ Some j → j.at ≡ m.execution.job
-    go true h e = cc
-    go false h e = absurd (cc)
 
 -- a turn that is taken, and sent
 pub does : (g : Given) (t : Turn) (m : Memory) (bodies sent : List Body) (before after : List Envelope) → Takes g t m bodies → sent ≡ bodies →

@@ -15,7 +15,7 @@ use Rattle.coordinator.specs.declared.memory.Proposed.{Proposed}
 use Rattle.coordinator.specs.declared.memory.Ballot.{Ballot}
 use Rattle.coordinator.specs.declared.memory.Stage.TheVariants as stage
 use Rattle.coordinator.specs.declared.memory.Memory.{Memory}
-use Rattle.coordinator.specs.Memory.{Given, StandsFor, choice_of}
+use Rattle.coordinator.specs.Memory.{Given, HasBegun, StandsFor, choice_of}
 use Rattle.coordinator.specs.Counting.{Leaves, called_for}
 use Rattle.coordinator.proofs.DecidingLemmas.{IsPrepared}
 use Rattle.coordinator.proofs.CountingLemmas.{leaves_all, prepared_here, replicas_are, same_stage}
@@ -84,8 +84,10 @@ stands_voted : (g : Given) (c : ClientState) (m : Memory) (content : Content) (v
 stands_voted g c m content votes proposal accepts b j v s p none = record {
   rules = s.rules;
   limits = s.limits;
+  programs = s.programs;
   course = s.course;
   within = s.within;
+  started = subst (λ x. HasBegun x m.course) p.at s.started;
   answers = s.answers;
   execution = s.execution;
   phase = rw (p.content, p.votes, none) refl;

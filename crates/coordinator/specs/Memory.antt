@@ -1,11 +1,12 @@
 -- When what a client keeps stands for what the definitions remember.
-use Rattle.std.specs.Prelude.{◌≡◌, ℕ, ◌+◌, ◌-◌, ◌*◌, ◌^◌, ◌≤◌, min, max, Bool, false, cond, ◌&&◌, ◌==◌, List, [], map, length, Option, Some, None, slice_get}
+use Rattle.std.specs.Prelude.{◌≡◌, ℕ, ◌+◌, ◌-◌, ◌*◌, ◌^◌, ◌<◌, ◌≤◌, min, max, Bool, false, cond, ◌&&◌, ◌==◌, List, [], map, length, Option, Some, None, slice_get, ◌⊎◌}
 use Rattle.protocol.specs.Words.{Version, Body, Choice}
-use Rattle.protocol.specs.declared.Fate.TheVariants.{Live}
+use Rattle.protocol.specs.declared.Fate.TheVariants.{Live, Unbegun}
 use Rattle.protocol.specs.Client.Attempts.{bumped}
 use Rattle.protocol.specs.Client.State as protocol
 use Rattle.protocol.specs.Client.State.{ClientState, Txn, Turn, Phase}
 use Rattle.protocol.specs.Client.State.Phase.{Between, Running, Prepared}
+use Rattle.flat_code.specs.Operation.{Flat}
 use Rattle.continuation.specs.declared.segment.Job.{Job}
 use Rattle.execution.specs.Execution as execution
 use Rattle.execution.specs.Execution.{Loaded, walk_of, answers_of, is_pending, fresh_execution}
@@ -46,6 +47,14 @@ program_of programs (Some t) = slice_get programs t.prog
 -- the program of the last transaction begun
 abbrev pub current : List Loaded → Plan → ℕ → Option Loaded
 current programs p begun = program_of programs (slice_get p.txns (begun - 1))
+
+-- the codes of programs, by the same numbers
+abbrev pub codes_of : List Loaded → List Flat
+codes_of programs = map (λ l. l.code) programs
+
+-- each transaction names one of the programs
+abbrev pub HavePrograms : List Loaded → List Txn2 → Type 0
+HavePrograms programs txns = (i : ℕ) (t : Txn2) → slice_get txns i ≡ Some t → (l : Loaded) × (slice_get programs t.prog ≡ Some l)
 
 -- the limits of a plan
 pub record IsWithinLimits (p : Plan) : Type 0 where
@@ -88,12 +97,20 @@ Holds p stage.Between e = Unit {0}
 Holds p (stage.Running given) e = e.nexts ≡ []
 Holds p (stage.Prepared b) e = (is_pending e ≡ false) × (b.tally.replicas ≡ p.rules.replicas)
 
+-- a transaction was begun, unless the client is still as it was at first
+abbrev pub HasBegun : Stage → Course → Type 0
+HasBegun stage.Between k = (k.fate ≡ Unbegun) ⊎ (0 < k.begun)
+HasBegun (stage.Running given) k = 0 < k.begun
+HasBegun (stage.Prepared b) k = 0 < k.begun
+
 -- what is kept stands for what the definitions remember, but for the decisions and attempts, which no rule reads
 pub record StandsFor (g : Given) (c : ClientState) (m : Memory) : Type 0 where
   pub rules : g.rules ≡ rules_of g.programs m.plan
   pub limits : IsWithinLimits m.plan
+  pub programs : HavePrograms g.programs m.plan.txns
   pub course : course_of c ≡ m.course
   pub within : IsWithin m.plan m.course
+  pub started : HasBegun m.stage m.course
   pub answers : c.answers ≡ answers_of m.execution
   pub execution : execution.StandsFor (current g.programs m.plan m.course.begun) m.execution
   pub phase : c.phase ≡ phase_of m.stage m.execution

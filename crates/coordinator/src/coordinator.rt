@@ -1,11 +1,10 @@
-ghost use Rattle.std.specs.Prelude.{◌≡◌, ◌++◌, ◌↔◌, Some, None, false, true, is_some, IsTrue, IfSome, IsErr, IfOk, OnOk, OnErr};
+ghost use Rattle.std.specs.Prelude.{◌≡◌, ◌++◌, ◌↔◌, Some, None, false, true, is_some, IsTrue, IfSome, IsErr, IfOk, OnOk, OnErr, slice_get};
 ghost use Rattle.protocol.specs.Client.State.{ClientState, Turn, fresh_client};
 ghost use Rattle.protocol.specs.Client.Attempts.{can_go, has_pending};
-ghost use Rattle.continuation.specs.Job.{FitsCode};
-ghost use Rattle.execution.specs.Execution.{Loaded};
+ghost use Rattle.continuation.specs.Job.{FitsCodes};
 ghost use Rattle.protocol.specs.Client.Step.{client_step, on_hurry};
 ghost use Rattle.protocol.specs.Client.Step.Input.{Goes, Runs, Hurries, Comes};
-ghost use Rattle.coordinator.specs.Memory.{Given, IsWithinLimits, awaits, current, pending_job, rules_of};
+ghost use Rattle.coordinator.specs.Memory.{Given, HavePrograms, IsWithinLimits, awaits, codes_of, pending_job, rules_of};
 
 use crate::memory::{Attempt, Course, Memory, Plan, Rules, Stage, Txn2};
 use continuation::{Done, Job};
@@ -41,7 +40,7 @@ impl Coordinator {
         rules: Rules,
     ) -> Result<Coordinator, NoMemory>
         requires { IsWithinLimits (record { client = client; rules = rules; txns = txns }) }
-        ensures { IfOk result (λ s. (g : Given) → g.rules ≡ rules_of g.programs (record { client = client; rules = rules; txns = txns }) → StandsFor g fresh_client s) }
+        ensures { IfOk result (λ s. (g : Given) → g.rules ≡ rules_of g.programs (record { client = client; rules = rules; txns = txns }) → HavePrograms g.programs txns → StandsFor g fresh_client s) }
     {
         let ver = Version { ts: 0, client: 0 };
         Ok(Coordinator {
@@ -117,11 +116,26 @@ impl Coordinator {
         Ok(())
     }
 
+    /// Whether a job is pending.
+    pub fn has_job(&self) -> bool
+        ensures told { result ≡ is_some (pending_job self.now.memory) }
+        ensures pending { (g : Given) (c : ClientState) → StandsFor g c self.now → result ≡ has_pending c.phase }
+    {
+        self.memory.is_awaiting()
+    }
+
+    /// Whether this is the pending job.
+    pub fn is_job(&self, job: &Job) -> bool
+        ensures { IsTrue result ↔ (pending_job self.now.memory ≡ Some job.now) }
+    {
+        self.memory.is_job(job)
+    }
+
     /// The pending job, if one is pending.
     pub fn job(&self, alloc: Global) -> Result<Option<Job>, NoMemory>
         ensures value { IfOk result (λ o. o ≡ pending_job self.now.memory) }
         ensures some { IfOk result (λ o. (g : Given) (c : ClientState) → StandsFor g c self.now → is_some o ≡ has_pending c.phase) }
-        ensures fits { IfOk result (λ o. (g : Given) (c : ClientState) (l : Loaded) → StandsFor g c self.now → current g.programs self.now.memory.plan self.now.memory.course.begun ≡ Some l → IfSome o (λ j. FitsCode l.code j.at)) }
+        ensures fits { IfOk result (λ o. (g : Given) (c : ClientState) → StandsFor g c self.now → IfSome o (λ j. FitsCodes (codes_of g.programs) j)) }
         ensures broken { IsTrue (is_broken self.now) → IsErr result }
     {
         if self.broken {
@@ -130,7 +144,7 @@ impl Coordinator {
         if !self.memory.is_awaiting() {
             return Ok(None);
         }
-        let at = self.memory.execution.job(alloc)?;
+        let at = self.memory.execution.job().copy(alloc)?;
         Ok(Some(Job {
             client: self.memory.plan.client,
             prog: self.memory.prog(),
@@ -150,8 +164,8 @@ impl Coordinator {
         requires { awaits self.old.memory done.now.job.serial ≡ true → pending_job self.old.memory ≡ Some done.now.job }
         ensures stale { IfOk result (λ r. r ≡ RanOut.Stale ↔ awaits self.old.memory done.now.job.serial ≡ false) }
         ensures still { awaits self.old.memory done.now.job.serial ≡ false → self.new ≡ self.old × out.new ≡ out.old }
-        ensures used { awaits self.old.memory done.now.job.serial ≡ true → OnOk result ((g : Given) (c : ClientState) (t : Turn) (l : Loaded) → StandsFor g c self.old → client_step g.rules c Runs ≡ Some t →
-            current g.programs self.old.memory.plan self.old.memory.course.begun ≡ Some l → done.now.code ≡ l.code → Does g t self.new out.old out.new) }
+        ensures used { awaits self.old.memory done.now.job.serial ≡ true → OnOk result ((g : Given) (c : ClientState) (t : Turn) → StandsFor g c self.old → client_step g.rules c Runs ≡ Some t →
+            slice_get (codes_of g.programs) done.now.job.prog ≡ Some done.now.code → Does g t self.new out.old out.new) }
         ensures kept { OnErr result (out.new ≡ out.old) }
         ensures broken { IsTrue (is_broken self.old) → IsErr result }
         ensures breaks { OnErr result (IsTrue (is_broken self.new)) }

@@ -1,11 +1,11 @@
 //! What follows from a decision: the end of the attempt, or its next execution.
 
-ghost use Rattle.std.specs.Prelude.{◌≡◌, ◌&&◌, ◌+◌, ◌∷◌, [], ℕ, true, nat_lt, None, List, Option, IfOk};
+ghost use Rattle.std.specs.Prelude.{◌≡◌, ◌&&◌, ◌+◌, ◌∷◌, [], ℕ, true, false, nat_lt, None, List, Option, IfOk};
 ghost use Rattle.std.specs.List.{list_any};
 ghost use Rattle.protocol.specs.Words.{Choice as ChoiceValue, Abandon, Content as ContentValue};
 ghost use Rattle.protocol.specs.Client.State.{ClientState, CountedVote};
 ghost use Rattle.protocol.specs.Client.State.Phase.{Prepared};
-ghost use Rattle.protocol.specs.Client.Attempts.{bumped};
+ghost use Rattle.protocol.specs.Client.Attempts.{bumped, is_between};
 ghost use Rattle.protocol.specs.Client.Deciding.{conclude, give_up, is_change, next_execution};
 ghost use Rattle.coordinator.specs.Memory.{Given, StandsFor, Takes, rerun_memory};
 
@@ -64,7 +64,7 @@ impl Memory {
 
     /// Where nothing is prepared, the client abandons the execution and the attempt.
     pub(crate) fn give_up(&mut self, alloc: Global) -> Result<List<Body>, NoMemory>
-        ensures { IfOk result (λ out. (g : Given) (c : ClientState) → StandsFor g c self.old → Takes g (give_up c) self.new out) }
+        ensures { IfOk result (λ out. (g : Given) (c : ClientState) → StandsFor g c self.old → is_between c.phase ≡ false → Takes g (give_up c) self.new out) }
     {
         self.end(Fate::Aborted);
         let sent = only(

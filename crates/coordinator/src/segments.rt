@@ -1,6 +1,6 @@
 //! What a segment brings: writes go out, then the next question; and an execution that ended is prepared.
 
-ghost use Rattle.std.specs.Prelude.{◌≡◌, ◌-◌, ◌++◌, ◌&&◌, ◌||◌, ◌∷◌, [], Bool, true, false, not, nat_lt, Some, None, IsTrue, IsSome, IfOk, is_some, slice_get};
+ghost use Rattle.std.specs.Prelude.{◌≡◌, ◌-◌, ◌++◌, ◌&&◌, ◌||◌, ◌∷◌, [], Bool, true, false, not, nat_lt, Some, None, IsTrue, IsSome, IfOk, ◌↔◌, is_some, slice_get};
 ghost use Rattle.std.specs.List.{list_all};
 ghost use Rattle.protocol.specs.Words.{Puts, Prepare, Ending as EndingValue};
 ghost use Rattle.protocol.specs.Lists.{one_when};
@@ -10,10 +10,11 @@ ghost use Rattle.protocol.specs.Client.Attempts.{question, prepare_if_ready, ran
 ghost use Rattle.continuation.specs.Job.{IsJobRun};
 ghost use Rattle.exec_log.specs.Log.{asked_by, ending_by};
 ghost use Rattle.execution.specs.Execution.{Loaded, answers_of, is_pending};
-ghost use Rattle.coordinator.specs.Memory.{Given, StandsFor, Takes, awaits, current, is_awaiting, prog_of};
+ghost use Rattle.coordinator.specs.Memory.{Given, StandsFor, Takes, awaits, current, is_awaiting, pending_job, prog_of};
 
+use crate::jobs::is_same_place;
 use crate::memory::{Ballot, Memory, Stage};
-use continuation::Seg;
+use continuation::{Job, Seg};
 use morty_base::{Ending, List, NoMemory};
 use msg::Body;
 use std::alloc::Global;
@@ -46,6 +47,16 @@ impl Memory {
             Some(txn) => txn.prog,
             None => 0,
         }
+    }
+
+    /// Whether this is the pending job.
+    pub(crate) fn is_job(&self, job: &Job) -> bool
+        ensures { IsTrue result ↔ (pending_job self.now ≡ Some job.now) }
+    {
+        self.awaits(job.serial)
+            && self.plan.client == job.client
+            && self.prog() == job.prog
+            && is_same_place(self.execution.job(), &job.at)
     }
 
     fn may_put(&self) -> bool

@@ -1,9 +1,10 @@
 //! What an envelope does, by the stage of the execution.
 
-ghost use Rattle.std.specs.Prelude.{◌≡◌, ◌&&◌, [], Bool, ℕ, List, Option, IfOk};
+ghost use Rattle.std.specs.Prelude.{◌≡◌, ◌&&◌, [], Bool, false, ℕ, List, Option, IfOk};
 ghost use Rattle.protocol.specs.Words.{Choice as ChoiceValue, Content as ContentValue, same_exec, same_version};
 ghost use Rattle.protocol.specs.Client.State.{ClientState, CountedVote, idle, turn_when};
 ghost use Rattle.protocol.specs.Client.State.Phase.{Prepared, Running};
+ghost use Rattle.protocol.specs.Client.Attempts.{is_between};
 ghost use Rattle.protocol.specs.Client.Deciding.{conclude, give_up};
 ghost use Rattle.protocol.specs.Client.Following.{note_prepared, note_running};
 ghost use Rattle.protocol.specs.Client.Step.{comes, comes_prepared, comes_running, is_warden, told_running};
@@ -70,7 +71,7 @@ impl Memory {
 
     // The version is too old to read.
     fn too_old(&mut self, alloc: Global, ver: Version) -> Result<List<Body>, NoMemory>
-        ensures { IfOk result (λ out. (g : Given) (c : ClientState) → StandsFor g c self.old → Takes g (turn_when (same_version ver c.exec.ver) c (give_up c)) self.new out) }
+        ensures { IfOk result (λ out. (g : Given) (c : ClientState) → StandsFor g c self.old → is_between c.phase ≡ false → Takes g (turn_when (same_version ver c.exec.ver) c (give_up c)) self.new out) }
     {
         if !self.is_version(ver) {
             return Ok(List::new(alloc));
@@ -87,7 +88,7 @@ impl Memory {
         exec: Exec,
         choice: Choice,
     ) -> List<Body>
-        ensures { (g : Given) (c : ClientState) → StandsFor g c self.old → Takes g (turn_when (is_warden from && same_exec exec c.exec) c (told_running c choice)) self.new result }
+        ensures { (g : Given) (c : ClientState) → StandsFor g c self.old → is_between c.phase ≡ false → Takes g (turn_when (is_warden from && same_exec exec c.exec) c (told_running c choice)) self.new result }
     {
         if !self.is_told(from, exec) {
             return List::new(alloc);

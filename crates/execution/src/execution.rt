@@ -48,11 +48,11 @@ impl Execution {
         self.log.is_pending()
     }
 
-    /// A copy of the last job.
-    pub fn job(&self, alloc: Global) -> Result<JobAt, NoMemory>
-        ensures { IfOk result (λ at. at ≡ self.now.job) }
+    /// The last job.
+    pub fn job(&self) -> &JobAt
+        ensures { result.now ≡ self.now.job }
     {
-        self.job.copy(alloc)
+        &self.job
     }
 
     /// The key of the question, where one stands.

@@ -4,8 +4,8 @@ use Rattle.std.specs.Prelude.{ℤ, reverse}
 use Rattle.protocol.specs.Words.{NodeId, Client, Replica, Warden, Picked, Ran, Idle, Deliver, Go}
 use Rattle.protocol.specs.World.State.{Plan, World, is_live}
 use Rattle.protocol.specs.World.Events.{Move, pick_moves, enabled, after}
-use Rattle.world.specs.Machine.{world_after}
-use Rattle.world.proofs.SameWorlds.{SameWorlds}
+use Rattle.world_machine.specs.Machine.{world_after}
+use Rattle.world_machine.proofs.SameWorlds.{SameWorlds}
 use Rattle.first_form.proofs.Journals.{done_journal, overflow_journal}
 use Rattle.first_form.proofs.Setting.{Setting, plan_in, world1, world2, world3, world4}
 use Rattle.first_form.proofs.Asking.{Asks, step1, step2, step3, step4}

@@ -10,11 +10,11 @@ use Rattle.protocol.specs.World.State.{World}
 use Rattle.protocol.specs.World.Committed.{is_committed, committed_executions}
 use Rattle.protocol_plans.specs.Scripted.{program_walk, plan_of}
 use Rattle.net_core.specs.Fair.{IsFairRun}
-use Rattle.world.specs.Machine.{machine_of, machine_over, world_after}
-use Rattle.world.proofs.SameWorlds.{worlds_agree}
+use Rattle.world_machine.specs.Machine.{machine_of, machine_over, world_after}
+use Rattle.world_machine.proofs.SameWorlds.{worlds_agree}
 use Rattle.net_core.proofs.AnswersDecide.{fair_runs_agree}
-use Rattle.world.proofs.HistoriesReplay.{histories_replay}
-use Rattle.world.specs.Rows.{rows_of}
+use Rattle.world_machine.proofs.HistoriesReplay.{histories_replay}
+use Rattle.world_machine.specs.Rows.{rows_of}
 use Rattle.first_form.specs.declared.script.FirstScript.{FirstScript}
 use Rattle.first_form.specs.Script.{cell, program, scripted, sum_fits, turns, world_of}
 use Rattle.first_form.specs.Stage.{content_of, row_of, written_or}

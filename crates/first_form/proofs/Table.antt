@@ -7,7 +7,7 @@ use Rattle.protocol.specs.World.State.{World, first_world}
 use Rattle.protocol.specs.World.Events.{pick_moves, enabled}
 use Rattle.net_core.specs.Machine.{History}
 use Rattle.net_core.specs.Fair.{IsFairRun}
-use Rattle.world.specs.Machine.{effect_in, menu_in, machine_over}
+use Rattle.world_machine.specs.Machine.{effect_in, menu_in, machine_over}
 use Rattle.first_form.proofs.Journals.{done_journal, overflow_journal}
 use Rattle.first_form.proofs.Setting.{Setting, plan_in, world1, world2, world3, world4}
 use Rattle.first_form.proofs.Writing as done

@@ -1,8 +1,8 @@
 ghost use Rattle.std.specs.Prelude.{◌≡◌, ◌+◌, ◌<◌, ◌≤◌, IfOk, reverse};
 ghost use Rattle.morty_base.specs.declared.names.Ended.TheVariants.{Quiet};
 ghost use Rattle.net_core.specs.Fair.{IsFairRun};
-ghost use Rattle.world.specs.Machine.{machine_of};
-ghost use Rattle.world.specs.Rows.{rows_of};
+ghost use Rattle.world_machine.specs.Machine.{machine_of};
+ghost use Rattle.world_machine.specs.Rows.{rows_of};
 ghost use Rattle.protocol_plans.specs.Scripted.{plan_of};
 ghost use Rattle.first_form.specs.Script.{cell as cell_of, version_of, scripted, turns, world_of};
 ghost use Rattle.first_form.specs.Stage.{content_of, row_of, written_or, rank};

@@ -1,2 +1,11 @@
 pub mod Removal
 pub mod Arriving
+pub mod SlotsLemmas
+pub mod NodesHaveSlots
+pub mod EachPlace
+pub mod LeastLemmas
+pub mod WaitingLemmas
+pub mod WaitingTurns
+pub mod WaitingStops
+pub mod MailboxesLemmas
+pub mod MailboxTurns

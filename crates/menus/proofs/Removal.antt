@@ -1,5 +1,6 @@
 -- A number is found by a search, and what is left without it.
-use Rattle.std.proofs.Common.{◌≡◌, inl, inr, ℕ, zero, suc, ◌+◌, ◌<◌, ◌≤◌, Bool, true, false, cond, List, [], ◌∷◌, ◌++◌, length, get_or, refl, ap, sym, subst, ◌∙◌, arith}
+use Rattle.std.proofs.Common.{◌≡◌, inl, inr, ℕ, zero, suc, ◌+◌, ◌<◌, ◌≤◌, Bool, true, false, cond, List, [], ◌∷◌, ◌++◌, length, get_or, set, refl, ap}
+use Rattle.std.proofs.Common.{sym, subst, ◌∙◌, arith}
 use Rattle.std.specs.Prelude.{not, ◌==◌, ◌||◌, nat_lt, drop}
 use Rattle.std.specs.List.{remove}
 use Rattle.std.proofs.lemmas.Bool.Decides.{nat_tests}
@@ -106,7 +107,8 @@ none_is i [] h = refl
 none_is i (x ∷ xs) h =
     ap (λ t. t || has_number i xs) (h 0 (omega arith)) ∙ none_is i xs (λ k g. h (suc k) (omega arith))
 
-pub missing : (i : ℕ) (xs : List ℕ) (p : ℕ) → ((k : ℕ) → k < p → get_or xs k 0 < i) → ((k : ℕ) → p ≤ k → k < length xs → i < get_or xs k 0) → has_number i xs ≡ false
+pub missing : (i : ℕ) (xs : List ℕ) (p : ℕ) → ((k : ℕ) → k < p → get_or xs k 0 < i) → ((k : ℕ) → p ≤ k → k < length xs → i < get_or xs k 0) →
+    has_number i xs ≡ false
 missing i xs p low high = none_is i xs (λ k g. go k g (nat_lt k p) refl)
   where
     go : (k : ℕ) → k < length xs → (t : Bool) → nat_lt k p ≡ t → (get_or xs k 0 == i) ≡ false
@@ -129,6 +131,19 @@ pub drop_push : (t i : ℕ) (xs : List ℕ) → t ≤ length xs → drop t (xs +
 drop_push zero i xs h = refl
 drop_push (suc t) i [] h = absurd (omega arith)
 drop_push (suc t) i (x ∷ xs) h = drop_push t i xs (omega arith)
+
+-- a number that takes the place above it leaves what was left without that one
+pub remove_below : (xs : List ℕ) (k d : ℕ) → suc k < length xs → remove (set xs (suc k) (get_or xs k d)) k ≡ remove xs (suc k)
+remove_below [] k d h = absurd (omega arith)
+remove_below (x ∷ []) k d h = absurd (omega arith)
+remove_below (x ∷ y ∷ ys) zero d h = refl
+remove_below (x ∷ y ∷ ys) (suc k) d h = ap (λ l. x ∷ l) (remove_below (y ∷ ys) k d (omega arith))
+
+-- one more is past, where those before the place moved up
+pub drop_closed : (t p : ℕ) (ys xs : List ℕ) → t < length ys → t ≤ length xs → remove ys t ≡ remove xs (t + p) → drop (t + 1) ys ≡ remove (drop t xs) p
+drop_closed t p ys xs h g e =
+    let z : t + 0 ≡ t = omega arith in
+    drop_one_more t ys h ∙ (sym (drop_removed t 0 ys (omega arith)) ∙ (ap (λ k. drop t (remove ys k)) z ∙ (ap (drop t) e ∙ drop_removed t p xs g)))
 
 -- what is left rises
 pub rising_removed : (p : ℕ) (xs : List ℕ) → p < length xs → AreRising xs → AreRising (remove xs p)

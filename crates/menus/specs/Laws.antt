@@ -1,8 +1,11 @@
--- How what is shown to a link changes.
+-- How what is shown to a link changes, and that the nodes of a plan have their slots.
 use Rattle.std.specs.Prelude.{◌≡◌, ℕ, true, false, not, List, [], ◌∷◌, ◌++◌, length, Some}
 use Rattle.std.specs.List.{slice_get}
 use Rattle.protocol.specs.Words.{NodeId, Envelope, same_node}
+use Rattle.protocol.specs.World.State.{Plan, exists}
+use Rattle.protocol.specs.World.Committed.{nodes}
 use Rattle.protocol.specs.World.Events.{marked}
+use Rattle.menus.specs.Slots.{Counts, count_of, has_node}
 use Rattle.menus.specs.Shown.{has_number}
 use Rattle.menus.specs.Inbox.{Arrived, AreBelow, IsInboxOf, without}
 
@@ -30,3 +33,18 @@ pub record Follows (n : NodeId) (mail : List Envelope) (delivered : List ℕ) : 
 
 abbrev pub InboxesFollow : Type 0
 InboxesFollow = (n : NodeId) (mail : List Envelope) (delivered : List ℕ) → Follows n mail delivered
+
+-- how many nodes a plan has
+abbrev pub counts_in : Plan → Counts
+counts_in p = record { clients = length p.clients; replicas = p.replicas; wardens = p.wardens }
+
+-- the nodes of a plan are as many as it counts, each in one slot
+pub record HasSlots (p : Plan) : Type 0 where
+  pub count : length (nodes p) ≡ count_of (counts_in p)
+  pub one_slot : (i j : ℕ) (n : NodeId) → slice_get (nodes p) i ≡ Some n → slice_get (nodes p) j ≡ Some n → i ≡ j
+  pub there : (n : NodeId) → has_node (counts_in p) n ≡ exists p n
+  pub stands : (i : ℕ) (n : NodeId) → slice_get (nodes p) i ≡ Some n → exists p n ≡ true
+  pub somewhere : (n : NodeId) → exists p n ≡ true → (i : ℕ) × (slice_get (nodes p) i ≡ Some n)
+
+abbrev pub NodesHaveSlots : Type 0
+NodesHaveSlots = (p : Plan) → HasSlots p

@@ -1,6 +1,6 @@
 //! The envelopes to one node, by their numbers: which of them were not delivered yet, and which were.
 
-ghost use Rattle.std.specs.Prelude.{◌≡◌, ◌<◌, ◌++◌, ◌∷◌, [], length, not, remove, OnOk, OnErr};
+ghost use Rattle.std.specs.Prelude.{◌≡◌, ◌≤◌, ◌<◌, ◌++◌, ◌∷◌, [], length, not, remove, OnOk, OnErr};
 ghost use Rattle.protocol.specs.World.Events.{marked};
 ghost use Rattle.menus.specs.Inbox.{AreBelow, without};
 ghost use Rattle.menus.specs.Shown.{has_number};
@@ -27,6 +27,20 @@ impl Model for Inbox {
     ghost view = { λ b. record { fresh = drop b.taken b.numbers.items; delivered = b.delivered } };
 
     ghost invariant = { λ b. (b.taken ≤ length b.numbers.items) × AreRising (drop b.taken b.numbers.items) };
+}
+
+// The number at a place goes, and those between a start and that place move up by one.
+fn close_up(numbers: &mut Vec<u64>, start: usize, at: usize)
+    requires from { start ≤ at }
+    requires within { at < length numbers.old.items }
+    ensures len { length numbers.new.items ≡ length numbers.old.items }
+    ensures left { remove numbers.new.items start ≡ remove numbers.old.items at }
+{
+    let mut gap = at;
+    while gap > start {
+        numbers[gap] = numbers[gap - 1];
+        gap -= 1;
+    }
 }
 
 impl Inbox {
@@ -65,15 +79,17 @@ impl Inbox {
         Ok(())
     }
 
-    // The number at a place of the fresh ones is no longer fresh.
+    // The number at a place of the fresh ones is no longer fresh. Those on its shorter side move.
     fn take(&mut self, place: usize)
         requires { place < length self.old.fresh }
         ensures { self.new ≡ record self.old { fresh = remove self.old.fresh place } }
     {
-        if place == 0 {
+        let at = self.taken + place;
+        if place <= self.numbers.len() - at {
+            close_up(&mut self.numbers, self.taken, at);
             self.taken += 1;
         } else {
-            self.numbers.remove(self.taken + place);
+            self.numbers.remove(at);
         }
     }
 

@@ -2,3 +2,6 @@ pub mod Results
 pub mod Placed
 pub mod WardenTurns
 pub mod TurnedWardens
+pub mod ClientJobs
+pub mod NodesLemmas
+pub mod PickLemmas

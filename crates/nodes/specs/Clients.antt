@@ -1,12 +1,13 @@
 -- When clients stand for those of a world.
-use Rattle.std.specs.Prelude.{◌≡◌, ℕ, suc, List, ◌++◌, map, length, Some, flat_map}
+use Rattle.std.specs.Prelude.{◌≡◌, ℕ, suc, ◌-◌, List, ◌++◌, map, length, Option, Some, None, flat_map}
 use Rattle.std.specs.List.{slice_get}
 use Rattle.protocol.specs.Words.{Envelope, Client as ClientNode}
 use Rattle.protocol.specs.Client.State.{ClientState, Turn}
 use Rattle.protocol.specs.World.State.{Plan, rules}
 use Rattle.protocol.specs.World.Events.{at, to_all}
+use Rattle.continuation.specs.declared.segment.Job.{Job}
 use Rattle.execution.specs.Execution.{Loaded}
-use Rattle.coordinator.specs.Memory.{Given, txn_in}
+use Rattle.coordinator.specs.Memory.{Given, HavePrograms, pending_job, txn_in}
 use Rattle.coordinator.specs.declared.memory.Rules.{Rules as ScriptRules}
 use Rattle.coordinator.specs.declared.memory.Txn2.{Txn2}
 use Rattle.coordinator.specs.Coordinator.{StandsFor}
@@ -18,13 +19,14 @@ pub record Loads : Type 0 where
   pub plan : Plan
   pub programs : List Loaded
 
--- the plan has these rules, and clients with these transactions
+-- the plan has these rules, and clients with these transactions, each of which names a program
 pub record IsPlanOf (l : Loads) (rules : ScriptRules) (txns : List (List Txn2)) : Type 0 where
   pub replicas : l.plan.replicas ≡ rules.replicas
   pub tries : l.plan.tries ≡ rules.tries
   pub execs : l.plan.execs ≡ rules.execs
   pub gap : l.plan.gap ≡ rules.gap
   pub clients : l.plan.clients ≡ map (map (txn_in l.programs)) txns
+  pub programs : (i : ℕ) (own : List Txn2) → slice_get txns i ≡ Some own → HavePrograms l.programs own
 
 -- what client c is given
 abbrev pub given : Loads → ℕ → Given
@@ -43,3 +45,11 @@ pub record AreClients (l : Loads) (states : ℕ → ClientState) (cs : Clients) 
 pub record TakesTurn (l : Loads) (c : ℕ) (t : Turn) (states : ℕ → ClientState) (cs : Clients) (before after : List Envelope) : Type 0 where
   pub stands : AreClients l (at c t.state states) cs
   pub sent : after ≡ before ++ flat_map (to_all l.plan.replicas (ClientNode c)) t.sent
+
+abbrev pub job_in : Option Coordinator → Option Job
+job_in None = None
+job_in (Some s) = pending_job s.memory
+
+-- the pending job of client c, if one is pending
+abbrev pub job_of : Clients → ℕ → Option Job
+job_of cs c = job_in (slice_get cs.clients.items (c - 1))

@@ -1,3 +1,4 @@
 pub mod Clients
 pub mod Replicas
 pub mod Wardens
+pub mod Nodes

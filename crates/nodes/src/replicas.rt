@@ -1,7 +1,7 @@
 ghost use Rattle.std.specs.Prelude.{◌≡◌, ◌<◌, ◌≤◌, ◌++◌, ℕ, [], length, IfOk, OnOk, OnErr};
 ghost use Rattle.protocol.specs.Replica.Taken.{Handled, after_taking};
 ghost use Rattle.protocol.specs.Replica.Says.{says};
-ghost use Rattle.protocol.specs.World.State.{Plan};
+ghost use Rattle.protocol.specs.World.State.{Plan, in_range};
 ghost use Rattle.protocol.specs.World.Events.{at};
 ghost use Rattle.replica.specs.Limits.{IsWithinLimits};
 
@@ -31,6 +31,13 @@ impl Replicas {
             replicas.push(replica)?;
         }
         Ok(Replicas { replicas })
+    }
+
+    /// Whether there is a replica of this number.
+    pub fn has(&self, number: u32) -> bool
+        ensures { result ≡ in_range number (length self.now.replicas.items) }
+    {
+        0 < number && number as usize <= self.replicas.len()
     }
 
     /// A replica handles an envelope. Where that is refused it is broken.

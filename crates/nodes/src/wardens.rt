@@ -3,7 +3,7 @@ ghost use Rattle.protocol.specs.Warden.State.{WardenState, fresh_warden};
 ghost use Rattle.protocol.specs.Warden.Recovery.{recover};
 ghost use Rattle.protocol.specs.Warden.Truncation.{can_truncate, truncate};
 ghost use Rattle.protocol.specs.Warden.Step.{warden_hears};
-ghost use Rattle.protocol.specs.World.State.{Plan, warden_rules};
+ghost use Rattle.protocol.specs.World.State.{Plan, in_range, warden_rules};
 
 use crate::warden::Warden;
 use morty_base::{Exec, List, NoMemory, Version};
@@ -28,6 +28,13 @@ impl Wardens {
             wardens.push(Warden::new(alloc, i + 1, count, replicas, clients))?;
         }
         Ok(Wardens { wardens })
+    }
+
+    /// Whether there is a warden of this number.
+    pub fn has(&self, number: u32) -> bool
+        ensures { result ≡ in_range number (length self.now.wardens.items) }
+    {
+        0 < number && number as usize <= self.wardens.len()
     }
 
     /// A warden handles an envelope.

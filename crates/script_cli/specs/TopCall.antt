@@ -4,8 +4,8 @@ use Rattle.protocol.specs.Words.{Quiet, Event}
 use Rattle.morty_io.specs.Bytes.{Takes, TakesPart}
 use Rattle.report.specs.Text.{line_feed, report_of}
 use Rattle.net_core.specs.Fair.{IsFairRun}
-use Rattle.world.specs.Machine.{machine_of}
-use Rattle.world.specs.Rows.{rows_of}
+use Rattle.world_machine.specs.Machine.{machine_of}
+use Rattle.world_machine.specs.Rows.{rows_of}
 use Rattle.first_form.specs.declared.script.FirstScript.{FirstScript}
 use Rattle.protocol_plans.specs.Scripted.{plan_of}
 use Rattle.first_form.specs.Script.{scripted, turns, world_of}

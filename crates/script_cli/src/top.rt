@@ -3,7 +3,7 @@ ghost use Rattle.morty_base.specs.declared.names.Ended.TheVariants.{Quiet};
 ghost use Rattle.net_core.specs.Marks.{end_of};
 ghost use Rattle.net_core.specs.Rounds.{InRounds};
 ghost use Rattle.net_core.specs.Fair.{AllFair};
-ghost use Rattle.world.specs.Machine.{machine_of};
+ghost use Rattle.world_machine.specs.Machine.{machine_of};
 ghost use Rattle.law_outcomes.specs.Outcome.{IsCorrectThroughout};
 ghost use Rattle.protocol_plans.specs.Scripted.{plan_of};
 ghost use Rattle.first_form.specs.Script.{scripted, turns};

@@ -1,2 +1,14 @@
-pub mod HistoriesReplay
-pub mod SameWorlds
+mod AttemptsKept
+mod Keeping
+mod Begun
+mod SoundWorlds
+mod LawsOfWorlds
+mod WorldLemmas
+mod SetupLemmas
+mod LimitsLemmas
+mod NodeSlots
+mod LoadingLemmas
+mod Happening
+mod Taking
+mod Giving
+mod ProgressLemmas

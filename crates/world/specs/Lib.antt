@@ -1,3 +1,7 @@
-pub mod Machine
-pub mod Rows
+pub mod Setup
+pub mod Origin
+pub mod World
+pub mod Jobs
+pub mod Sound
 pub mod Laws
+pub mod MachineLaws

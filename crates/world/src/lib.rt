@@ -1,12 +1,22 @@
-//! The world of a plan as a machine that replays events, and the rows that are reported of a world, by definition.
+//! The world of real nodes: clients, replicas and wardens over a mail, one event at a time.
 //!
-//! Read `specs/Machine`, `Rows` and `Laws`. A history is a replay, its last event first (`proofs/HistoriesReplay`), and two
-//! ways to the same worlds make machines that answer alike (`SameWorlds`).
+//! Read `specs/Origin`, what a world is made of; `World`, when its parts stand for a world of the definitions, and when it
+//! stands for the events that it took; `Laws`, what holds of each world then. `parts` does what an event does, and asks only
+//! what it needs; `world` is whole from call to call, since each world that events lead to is sound (`proofs/SoundWorlds`, by the
+//! laws of frames and views). `machine` makes it a machine that is driven by links (`proofs/Lawful`).
 #![tactic(auto)]
 
-ghost use Rattle.world.specs.Laws.{HistoriesReplay};
+mod beginning;
+mod events;
+pub mod laws;
+mod loading;
+mod machine;
+mod origin;
+mod parts;
+mod setup;
+mod sound;
+mod world;
 
-/// The world after a history is the replay of its events in order.
-pub fn histories_replay()
-    ensures { HistoriesReplay }
-{}
+pub use loading::kit;
+pub use origin::Origin;
+pub use world::World;

@@ -5,8 +5,8 @@ use Rattle.report.specs.declared.rows.Rows.{Rows}
 use Rattle.report.specs.declared.rows.CommitRow.{CommitRow}
 use Rattle.report.specs.declared.rows.ValueRow.{ValueRow}
 use Rattle.net_core.specs.Fair.{IsFairRun}
-use Rattle.world.specs.Machine.{machine_of}
-use Rattle.world.specs.Rows.{rows_of}
+use Rattle.world_machine.specs.Machine.{machine_of}
+use Rattle.world_machine.specs.Rows.{rows_of}
 use Rattle.first_form.specs.declared.script.FirstScript.{FirstScript}
 use Rattle.first_form.specs.declared.stage.Stage.TheVariants.{Committed}
 use Rattle.first_form.specs.declared.run.Play.{Play}

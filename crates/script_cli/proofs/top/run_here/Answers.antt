@@ -4,7 +4,7 @@ use Rattle.protocol.specs.Words.{Quiet}
 use Rattle.net_core.specs.Fair.{AllFair}
 use Rattle.net_core.specs.Marks.{end_of}
 use Rattle.net_core.specs.Rounds.{InRounds}
-use Rattle.world.specs.Machine.{machine_of}
+use Rattle.world_machine.specs.Machine.{machine_of}
 use Rattle.law_outcomes.specs.Outcome.{IsCorrectThroughout}
 use Rattle.law_outcomes.proofs.Outcomes.{outcomes_are_correct}
 use Rattle.protocol_plans.specs.Scripted.{plan_of}

@@ -1,7 +1,8 @@
 -- What comes is taken by its body.
-use Rattle.std.proofs.Common.{◌≡◌, ℤ, sym, subst, w64, to_z, of_z, rules}
+use Rattle.std.proofs.Common.{◌≡◌, ℤ, ap, sym, subst, w64, to_z, of_z, rules}
 use Rattle.protocol.specs.Words.{Body, same_version}
 use Rattle.protocol.specs.Client.State.{turn_when}
+use Rattle.protocol.specs.Client.Attempts.{is_between}
 use Rattle.protocol.specs.Client.Following.{note_running}
 use Rattle.protocol.specs.Client.Step.{comes_running}
 use Rattle.coordinator.specs.Memory.{Takes}
@@ -21,13 +22,13 @@ pub returns-in_ok-out-in-TooOld : goal.returns-in_ok-out-in-TooOld
 unfolding comes_running
 returns-in_ok-out-in-TooOld c = λ g k pending given s runs.
     subst (λ (b : Body). Takes g (comes_running g.rules k pending c.args.from b) c.too_old.new.self c.in_ok-out-in-TooOld.out) (sym c.in-TooOld.is)
-    (c.in_ok-out-in-TooOld.ensures g k s)
+    (c.in_ok-out-in-TooOld.ensures g k s (ap is_between runs))
 
 pub returns-in-Decide : goal.returns-in-Decide
 unfolding comes_running
 returns-in-Decide c = λ g k pending given s runs.
     subst (λ (b : Body). Takes g (comes_running g.rules k pending c.args.from b) c.told_running.new.self c.told_running.result) (sym c.in-Decide.is)
-    (c.told_running.ensures g k s)
+    (c.told_running.ensures g k s (ap is_between runs))
 
 pub returns-in_default : goal.returns-in_default
 returns-in_default c = λ g k pending given s runs.

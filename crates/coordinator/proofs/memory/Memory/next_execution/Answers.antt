@@ -6,7 +6,7 @@ use Rattle.exec_log.specs.Log.{ending_by}
 use Rattle.protocol.specs.Words.{Puts}
 use Rattle.protocol.specs.Lists.{one_when}
 use Rattle.protocol.specs.Client.State.{may_put}
-use Rattle.protocol.specs.Client.Attempts.{bumped}
+use Rattle.protocol.specs.Client.Attempts.{bumped, is_between}
 use Rattle.protocol.specs.Client.Deciding.{cut, next_execution, other_value, relabelled}
 use Rattle.execution.specs.Execution.{is_pending}
 use Rattle.coordinator.specs.Memory.{StandsFor, Takes, current, rerun_memory}
@@ -21,7 +21,7 @@ returns-then-other c = λ g k content votes proposal accepts s runs more.
     subst (λ (m : Memory). Takes g (next_execution g.rules k c.args.sent) m c.args.sent)
     (sym (c.bump.ensures ∙ ap (λ (x : Memory). record x { course = record x.course { serial = bumped x.course.serial } }) c.next_exec.ensures))
     (next_rewound g k _ c.args.sent (ap (list_any other_value) s.answers ∙ sym moved.other ∙ c.if-other.true)
-    (stands_rewound g k c.args.self.now c.move_on.new.self (cut k.answers) s more (moved.stands o s.execution)
+    (stands_rewound g k c.args.self.now c.move_on.new.self (cut k.answers) s (ap is_between runs) more (moved.stands o s.execution)
     (ap cut s.answers ∙ sym (moved.back s.execution.whole c.if-other.true)) (moved.pending c.if-other.true) moved.nexts))
 
 pub returns : goal.returns
@@ -33,7 +33,8 @@ returns c = λ g k content votes proposal accepts s runs more.
     let m = rerun_memory (record c.args.self.now { execution = e }) in
     let was = (prepared_so g k c.args.self.now content votes proposal accepts s runs).1.still in
     let still : is_pending e ≡ false = ap is_none (moved.next s.execution.whole c.if-other.false) ∙ was in
-    let now = stands_relabelled g k c.args.self.now e s more (moved.stands o s.execution) (moved.kept s.execution.whole c.if-other.false) still moved.nexts in
+    let now = stands_relabelled g k c.args.self.now e s (ap is_between runs) more
+    (moved.stands o s.execution) (moved.kept s.execution.whole c.if-other.false) still moved.nexts in
     next_kept g k m c.prepare_if_ready.new.self c.args.sent c.append.new.self c.in_ok-out.out
     (ap (list_any other_value) s.answers ∙ sym moved.other ∙ c.if-other.false) now still
     (c.in_ok-append.ensures.ok ∙ ap (λ ps. c.args.sent ++ ps) (c.in_ok-puts.ensures

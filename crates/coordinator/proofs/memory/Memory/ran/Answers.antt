@@ -4,7 +4,7 @@ use Rattle.std.specs.Prelude.{is_none, ◌||◌, ◌&&◌, not, nat_lt}
 use Rattle.exec_log.specs.Log.{asked_by}
 use Rattle.protocol.specs.Client.State.{Turn}
 use Rattle.protocol.specs.Client.State.Phase.{Running}
-use Rattle.protocol.specs.Client.Attempts.{question}
+use Rattle.protocol.specs.Client.Attempts.{is_between, question}
 use Rattle.execution.specs.Execution as execution
 use Rattle.execution.specs.Execution.{is_pending}
 use Rattle.coordinator.specs.Memory.{Takes}
@@ -18,7 +18,7 @@ returns c = λ g k given l s runs is run.
     let e = c.take.new.self in
     let m : Memory = record c.args.self.now { execution = e; stage = stage.Running true } in
     let follows = c.in_ok-take.ensures.stands l (subst (λ o. execution.StandsFor o c.args.self.now.execution) is s.execution) run in
-    let now = stands_ran g k c.args.self.now e c.args.seg.now.next s (runs_bare g k c.args.self.now true given s runs)
+    let now = stands_ran g k c.args.self.now e c.args.seg.now.next s (ap is_between runs) (runs_bare g k c.args.self.now true given s runs)
     (subst (λ o. execution.StandsFor o e) (sym is) follows) c.in_ok-take.ensures.answers c.in_ok-take.ensures.next c.in_ok-take.ensures.nexts in
     let still : is_pending e ≡ false = ap is_none c.in_ok-take.ensures.next in
     let pending = (runs_so g k c.args.self.now true given s runs).1 in

@@ -12,7 +12,8 @@ invariant_of-self-2 c =
     let below : AreBelow c.args.i (drop b.taken b.numbers.items) = subst (AreBelow c.args.i) (sym fresh) c.requires in
     let within : b.taken ≤ length (b.numbers.items ++ c.args.i ∷ []) = omega (arith, length-append b.numbers.items (c.args.i ∷ []), c.self.invariant.0) in
     let rising : AreRising (drop b.taken (b.numbers.items ++ c.args.i ∷ [])) =
-    subst AreRising (sym (drop_push b.taken c.args.i b.numbers.items c.self.invariant.0)) (rising_push c.args.i (drop b.taken b.numbers.items) c.self.invariant.1 below) in
+    subst AreRising (sym (drop_push b.taken c.args.i b.numbers.items c.self.invariant.0))
+    (rising_push c.args.i (drop b.taken b.numbers.items) c.self.invariant.1 below) in
     rw c.in_ok-push.ensures.items (within, rising)
 
 pub returns-clause-ok : goal.returns-clause-ok

@@ -23,8 +23,8 @@ given_rules o r txns i own h e =
     ap (λ l. slice_get l i) h.clients ∙ (slice_get-map (map (txn_in o.programs)) txns i ∙ ap (option_map (map (txn_in o.programs))) e) in
     rw (at, there, h.replicas, h.tries, h.execs, h.gap) refl
 
-more : (o : Loads) (xs : List Coordinator) (i : ℕ) (s : Coordinator) → length xs ≡ i → Stand (IsClient o) (λ c. fresh_client) xs → IsClient o (i + 1) fresh_client s →
-    Stand (IsClient o) (λ c. fresh_client) (xs ++ s ∷ [])
+more : (o : Loads) (xs : List Coordinator) (i : ℕ) (s : Coordinator) → length xs ≡ i → Stand (IsClient o) (λ c. fresh_client) xs →
+    IsClient o (i + 1) fresh_client s → Stand (IsClient o) (λ c. fresh_client) (xs ++ s ∷ [])
 more o xs i s n h k =
     let e : i + 1 ≡ suc (length xs) = omega (arith, n) in
     pushed (IsClient o) (λ c. fresh_client) xs s h (subst (λ j. IsClient o j fresh_client s) e k)
@@ -39,16 +39,21 @@ new-requires c = c.requires.within (c.loop-i.i + 1) c.loop-i.i c.in_ok-own.own
 pub loop-i-preserved : goal.loop-i-preserved
 loop-i-preserved c =
     let items = c.loop-i.clients.items in
+    let i = c.loop-i.i in
+    let txns = c.args.txns.now in
+    let own = c.in_ok-own.own in
+    let there = own_at txns i own c.index-txns-i.result c.in_ok-own.ensures (omega (arith, c.loop-i-test.true)) c.index-txns-i.is in
     record {
       count = ap length c.in_ok-push.ensures.items ∙ (length-append items (c.in_ok-client.client ∷ []) ∙ ap (λ n. n + 1) c.loop-i.invariant.count);
       each = λ o h. subst (Stand (IsClient o) (λ c. fresh_client)) (sym c.in_ok-push.ensures.items)
-          (more o items c.loop-i.i c.in_ok-client.client c.loop-i.invariant.count (c.loop-i.invariant.each o h)
-          (c.in_ok-client.ensures (given o (c.loop-i.i + 1)) (given_rules o c.args.rules c.args.txns.now c.loop-i.i c.in_ok-own.own h
-          (own_at c.args.txns.now c.loop-i.i c.in_ok-own.own c.index-txns-i.result c.in_ok-own.ensures (omega (arith, c.loop-i-test.true)) c.index-txns-i.is))));
+          (more o items i c.in_ok-client.client c.loop-i.invariant.count (c.loop-i.invariant.each o h)
+          (c.in_ok-client.ensures (given o (i + 1)) (given_rules o c.args.rules txns i own h there) (h.programs i own there)));
     }
 
 pub returns : goal.returns
 returns c = λ o h. record {
-  count = c.loop-i.invariant.count ∙ (omega (arith, c.loop-i-test.false, c.loop-i.auto.i-end) ∙ sym (ap length h.clients ∙ length-map c.args.txns.now (map (txn_in o.programs))));
+  count =
+      c.loop-i.invariant.count ∙ omega (arith, c.loop-i-test.false, c.loop-i.auto.i-end)
+      ∙ sym (ap length h.clients ∙ length-map c.args.txns.now (map (txn_in o.programs)));
   each = c.loop-i.invariant.each o h;
 }

@@ -1,0 +1,3 @@
+pub mod Enabling
+pub mod Lawful
+pub mod NodeJobs

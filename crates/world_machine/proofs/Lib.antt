@@ -1,0 +1,2 @@
+pub mod HistoriesReplay
+pub mod SameWorlds

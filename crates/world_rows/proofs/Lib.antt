@@ -1,0 +1,12 @@
+pub mod Appended
+pub mod OrdersLemmas
+pub mod EntriesLemmas
+pub mod SortedLemmas
+pub mod NotesLemmas
+pub mod LastPrepare
+pub mod LastCommitted
+pub mod CommittedRows
+pub mod ValuesLemmas
+pub mod SortedKeys
+pub mod LeftLemmas
+pub mod CommitsAreTold
