@@ -15,6 +15,7 @@ use Rattle.msg.specs.declared.Event.TheVariants.{Picked, Ran}
 use Rattle.net_core.specs.Machine.{History, Machine, Effect, Moves, Refused, Not_enabled}
 use Rattle.net_core.specs.Marks.{picks, is_turn, turns_made, mark_after, is_marked, is_full, is_quiet, is_refused, is_out_of_turns, end_of}
 use Rattle.net_core.specs.Replay.{out_of}
+use Rattle.net_core.specs.declared.machine.StepOut.{StepOut}
 use Rattle.hub.specs.Turns.{ended_by, marks_after, turns_after}
 use Rattle.hub.specs.Kept.{picks_in}
 use Rattle.morty_base.proofs.Orders.{same_node_tells}
@@ -100,6 +101,12 @@ marks_pick m h n p nodes slot Refused is own here others =
     set_map (is_marked m h) (λ k. not (same_node k n) && is_marked m h k) false nodes slot n here (ap (λ b. not b && is_marked m h n) own)
     (λ j k e ne. and_not_false (same_node k n) (is_marked m h k) (others j k e ne))
     ∙ ap (λ f. map (λ k. mark_after k (Picked n p) f (is_marked m h k)) nodes) (sym is)
+
+-- what did not move the machine is not told as a move
+pub not_moved : (f : Effect) (out : StepOut) → out ≡ out_of f → f ≢ Moves → out ≢ StepOut.Moved
+not_moved Moves out is other = absurd (other refl)
+not_moved Refused out is other = λ moved. let t : StepOut.Full ≡ StepOut.Moved = sym is ∙ moved in absurd cc
+not_moved Not_enabled out is other = λ moved. let t : StepOut.Idle ≡ StepOut.Moved = sym is ∙ moved in absurd cc
 
 pub own_node : (n : NodeId) → same_node n n ≡ true
 own_node n = elim (same_node_tells n n) [ inl e ↦ e.0 | inr e ↦ absurd (e.1 refl) ]

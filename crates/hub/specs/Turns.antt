@@ -8,7 +8,7 @@ use Rattle.morty_base.specs.declared.names.Ended.TheVariants as ended
 use Rattle.msg.specs.declared.Pick.{Pick}
 use Rattle.msg.specs.declared.Event.{Event}
 use Rattle.msg.specs.declared.Event.TheVariants.{Picked, Ran}
-use Rattle.net_core.specs.Machine.{History, Machine, Effect, Moves, Refused, Not_enabled}
+use Rattle.net_core.specs.Machine.{Machine, Effect, Moves, Refused, Not_enabled}
 use Rattle.net_core.specs.Marks.{is_marked, is_quiet, is_turn, turns_made}
 use Rattle.net_core.specs.Replay.{IsDue, IsTaken}
 use Rattle.net_core.specs.declared.machine.StepOut.{StepOut}
@@ -16,7 +16,7 @@ use Rattle.net_core.specs.declared.machine.RanStep.{RanStep}
 use Rattle.net_core.specs.declared.machine.RanStep.TheVariants.{Used, Stale, Full}
 use Rattle.hub.specs.declared.turn_out.TurnCase.{TurnCase}
 use Rattle.hub.specs.declared.turn_out.TurnOut.{TurnOut}
-use Rattle.hub.specs.Views.{HubView, history}
+use Rattle.hub.specs.Views.{HubView, history, job_in, HasPending}
 
 -- what a turn answers once the run has ended
 abbrev pub ended_out : {J : Type 0} → Ended → TurnOut J
@@ -48,25 +48,27 @@ abbrev pub IsLeft : {J : Type 0} → Option J → List (Option J) → ℕ → J 
 IsLeft {J} due handed slot j = (due ≡ Some j) × ((h : Option J) → slice_get handed slot ≡ Some h → h ≢ Some j)
 
 -- which case of a turn of the node n of a slot holds: the first of them
-abbrev pub IsCase : {J : Type 0} → Machine → (History → NodeId → Option J) → ℕ → NodeId → ℕ → HubView J → TurnCase J → Type 0
-IsCase m jobs turns n slot v (TurnCase.Over e) = v.ended ≡ Some e
-IsCase m jobs turns n slot v TurnCase.Quiet = (v.ended ≡ None) × (is_quiet m (history v) ≡ true)
-IsCase m jobs turns n slot v TurnCase.Stopped = IsRunning m v × (m.live (history v) n ≡ false)
-IsCase m jobs turns n slot v (TurnCase.Job j) = IsRunning m v × (m.live (history v) n ≡ true) × IsLeft (jobs (history v) n) v.handed slot j
-IsCase m jobs turns n slot v TurnCase.Marked =
-    IsRunning m v × (m.live (history v) n ≡ true) × NoneLeft (jobs (history v) n) v.handed slot × (is_marked m (history v) n ≡ true)
-IsCase m jobs turns n slot v TurnCase.Spent =
-    IsRunning m v × (m.live (history v) n ≡ true) × NoneLeft (jobs (history v) n) v.handed slot × (is_marked m (history v) n ≡ false)
+abbrev pub IsCase : {J : Type 0} → Machine → ℕ → NodeId → ℕ → HubView J → TurnCase J → Type 0
+IsCase m turns n slot v (TurnCase.Over e) = v.ended ≡ Some e
+IsCase m turns n slot v TurnCase.Quiet = (v.ended ≡ None) × (is_quiet m (history v) ≡ true)
+IsCase m turns n slot v TurnCase.Stopped = IsRunning m v × (m.live (history v) n ≡ false)
+IsCase m turns n slot v (TurnCase.Job j) = IsRunning m v × (m.live (history v) n ≡ true) × IsLeft (job_in v.jobs slot) v.handed slot j
+IsCase m turns n slot v TurnCase.Marked =
+    IsRunning m v × (m.live (history v) n ≡ true) × NoneLeft (job_in v.jobs slot) v.handed slot × (is_marked m (history v) n ≡ true)
+IsCase m turns n slot v TurnCase.Spent =
+    IsRunning m v × (m.live (history v) n ≡ true) × NoneLeft (job_in v.jobs slot) v.handed slot × (is_marked m (history v) n ≡ false)
     × (nat_le turns (turns_made n (history v)) ≡ true)
-IsCase m jobs turns n slot v TurnCase.Ask =
-    IsRunning m v × (m.live (history v) n ≡ true) × NoneLeft (jobs (history v) n) v.handed slot × (is_marked m (history v) n ≡ false)
+IsCase m turns n slot v TurnCase.Ask =
+    IsRunning m v × (m.live (history v) n ≡ true) × NoneLeft (job_in v.jobs slot) v.handed slot × (is_marked m (history v) n ≡ false)
     × (nat_le turns (turns_made n (history v)) ≡ false)
 
--- a turn that asked its link: the pick is recorded, and the run has ended if it was refused
+-- a turn that asked its link: the pick is recorded, the run has ended if it was refused, and the jobs may be others if it moved
+-- the machine
 abbrev pub Asked : {J : Type 0} → Machine → NodeId → HubView J → HubView J → TurnOut J → Type 0
 Asked m n old new out =
     (p : Pick) × (out ≡ asked_out (m.effect (history old) (Picked n p)))
-    × (new ≡ record old { journal = old.journal ++ Picked n p ∷ []; ended = ended_by (m.effect (history old) (Picked n p)) })
+    × (new ≡ record old { journal = old.journal ++ Picked n p ∷ []; jobs = new.jobs; ended = ended_by (m.effect (history old) (Picked n p)) })
+    × (m.effect (history old) (Picked n p) ≢ Moves → new.jobs ≡ old.jobs)
 
 -- what a turn answers and does in a case
 abbrev pub Does : {J : Type 0} → Machine → NodeId → ℕ → HubView J → HubView J → TurnOut J → TurnCase J → Type 0
@@ -78,23 +80,22 @@ Does m n slot old new out TurnCase.Marked = (out ≡ TurnOut.Idle) × (new ≡ o
 Does m n slot old new out TurnCase.Spent = (out ≡ TurnOut.Spent) × (new ≡ record old { ended = Some ended.Spent })
 Does m n slot old new out TurnCase.Ask = Asked m n old new out
 
--- a turn of the node of a slot
-pub record IsTurn {J : Type 0} (m : Machine) (jobs : History → NodeId → Option J) (turns : ℕ) (n : NodeId) (slot : ℕ)
-    (old new : HubView J) (out : TurnOut J) : Type 0 where
+-- a turn of the node of a slot, while the jobs were those of the rules
+pub record IsTurn {J : Type 0} (m : Machine) (turns : ℕ) (n : NodeId) (slot : ℕ) (old new : HubView J) (out : TurnOut J) : Type 0 where
+  pub pending : HasPending m old
   pub case : TurnCase J
-  pub is_case : IsCase m jobs turns n slot old case
+  pub is_case : IsCase m turns n slot old case
   pub does : Does m n slot old new out case
 
--- giving a segment back: a stale one changes nothing; one that is used is recorded, and no job of the slot counts as handed
--- out; and one that the full mail refuses is recorded, and ends the run
-abbrev pub Gave : {J : Type 0} → Machine → (History → NodeId → Option J) → (J → Type 0) → NodeId → ℕ → HubView J → HubView J → RanStep →
-    Type 0
-Gave {J} m jobs of_job n slot old new Stale = ((j : J) → IsDue m jobs (history old) n j → ¬ of_job j) × (new ≡ old)
-Gave m jobs of_job n slot old new Used =
-    (c : ℕ) × IsTaken m jobs of_job (history old) n Moves c
-    × (new ≡ record old { journal = old.journal ++ Ran c ∷ []; handed = slice_set old.handed slot None })
-Gave m jobs of_job n slot old new Full =
-    (c : ℕ) × IsTaken m jobs of_job (history old) n Refused c
+-- giving a segment back: a stale one changes nothing; one that is used is recorded, the jobs may be others, and no job of the
+-- slot counts as handed out; and one that the full mail refuses is recorded, and ends the run
+abbrev pub Gave : {J : Type 0} → Machine → (J → Type 0) → NodeId → ℕ → HubView J → HubView J → RanStep → Type 0
+Gave {J} m of_job n slot old new Stale = ((j : J) → IsDue m (job_in old.jobs slot) (history old) n j → ¬ of_job j) × (new ≡ old)
+Gave m of_job n slot old new Used =
+    (c : ℕ) × IsTaken m (job_in old.jobs slot) of_job (history old) n Moves c
+    × (new ≡ record old { journal = old.journal ++ Ran c ∷ []; jobs = new.jobs; handed = slice_set old.handed slot None })
+Gave m of_job n slot old new Full =
+    (c : ℕ) × IsTaken m (job_in old.jobs slot) of_job (history old) n Refused c
     × (new ≡ record old { journal = old.journal ++ Ran c ∷ []; ended = Some ended.Full })
 
 -- the marks after a pick of a slot

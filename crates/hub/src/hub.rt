@@ -1,11 +1,11 @@
-ghost use Rattle.std.specs.Prelude.{◌≡◌, ◌<◌, true, false, [], length, reverse, map, replicate, nat_le, slice_get, slice_set, Some, None, Ok};
+ghost use Rattle.std.specs.Prelude.{◌≡◌, ◌<◌, ◌≤◌, true, false, [], length, reverse, map, replicate, nat_le, slice_get, slice_set, Some, None, Ok};
 ghost use Rattle.std.specs.Prelude.{IfOk, OnOk, OnErr, IsErr, IfSome, IsSome, MatchOption};
 ghost use Rattle.morty_base.specs.declared.names.NodeId.{NodeId as NodeValue};
 ghost use Rattle.net_core.specs.Machine.{History};
 ghost use Rattle.net_core.specs.Marks.{rests, is_quiet, is_full, is_marked, turns_made, end_of};
 ghost use Rattle.net_core.specs.declared.machine.RanStep.TheVariants.{Stale};
 ghost use Rattle.hub.specs.Starts.{Start, IsRun};
-ghost use Rattle.hub.specs.Views.{HubView, first_view, history, told_end, AtNode};
+ghost use Rattle.hub.specs.Views.{HubView, first_view, history, nodes_of, job_in, told_end, AtNode};
 ghost use Rattle.hub.specs.Turns.{IsTurn, IsLeft, IsCase, NoneLeft, Asked, Does, Gave};
 ghost use Rattle.hub.specs.Kept.{picks_in, rans_in};
 
@@ -46,7 +46,7 @@ pub struct Hub<M: Machine, L: Link, N: Named<M::Origin>> {
 impl<M: Machine, L: Link, N: Named<M::Origin>> Model for Hub<M, L, N> {
     ghost use Rattle.std.specs.Prelude.{◌≡◌, Bool, false, reverse, Some, map, length};
     ghost use Rattle.hub.specs.Starts.{Start};
-    ghost use Rattle.hub.specs.Views.{HubView};
+    ghost use Rattle.hub.specs.Views.{HubView, nodes_of};
     ghost use Rattle.hub.specs.Kept.{IsKept, IsNoted, HasRooms, picks_in};
 
     ghost Value = { HubView M.Job };
@@ -54,6 +54,7 @@ impl<M: Machine, L: Link, N: Named<M::Origin>> Model for Hub<M, L, N> {
     ghost view = { λ h. record {
       nodes = length h.links.items;
       journal = h.journal.items;
+      jobs = map (M.jobs h.machine) (nodes_of N.start M.rules);
       handed = h.handed.items;
       ended = h.ended;
       spoiled = h.spoiled;
@@ -66,7 +67,8 @@ impl<M: Machine, L: Link, N: Named<M::Origin>> Model for Hub<M, L, N> {
         × (h.broken ≡ false → (s : Start M.Origin) → N.start ≡ Some s
         → IsKept M.rules (M.stands h.machine) s (reverse h.journal.items) (map L.state_of h.links.items) h.turns h.marks.items h.made.items h.ended)
         × (h.spoiled ≡ false → h.broken ≡ false)
-        × ((s : Start M.Origin) → N.start ≡ Some s → length h.links.items ≡ length (M.rules s.origin).nodes) };
+        × ((s : Start M.Origin) → N.start ≡ Some s → length h.links.items ≡ length (M.rules s.origin).nodes)
+        × M.usable h.machine };
 }
 
 impl<M: Machine, L: Link, N: Named<M::Origin>> Hub<M, L, N> {
@@ -78,8 +80,9 @@ impl<M: Machine, L: Link, N: Named<M::Origin>> Hub<M, L, N> {
         turns: u32,
     ) -> Result<Hub<M, L, N>, NoMemory>
         requires links { length links.items ≡ M.count machine }
+        requires usable { M.usable machine }
         requires start { (s : Start M.Origin) → N.start ≡ Some s → M.stands machine s.origin [] × (s.turns ≡ turns) × (s.links ≡ map L.state_of links.items) }
-        ensures { IfOk result (λ h. h ≡ first_view (length links.items)) }
+        ensures { IfOk result (λ h. h ≡ first_view (length links.items) (map (M.jobs machine) (nodes_of N.start M.rules))) }
     {
         let nodes = machine.nodes() as usize;
         let marks = falses(alloc, nodes)?;
@@ -118,9 +121,10 @@ impl<M: Machine, L: Link, N: Named<M::Origin>> Hub<M, L, N> {
         (machine, journal, links)
     }
 
-    /// The number of nodes.
+    /// The number of nodes. There is one at least.
     pub fn nodes(&self) -> u32
         ensures told { result ≡ self.now.nodes }
+        ensures some { 1 ≤ result }
         ensures machine { (s : Start M.Origin) → N.start ≡ Some s → result ≡ length (M.rules s.origin).nodes }
     {
         self.machine.nodes()
@@ -169,8 +173,10 @@ impl<M: Machine, L: Link, N: Named<M::Origin>> Hub<M, L, N> {
         ensures spoiled { self.old.spoiled ≡ true → IsErr result × (self.new ≡ self.old) }
         ensures whole { OnOk result (self.old.broken ≡ false) }
         ensures ok { IfOk result (λ out. (s : Start M.Origin) → N.start ≡ Some s → (n : NodeValue) × (slice_get (M.rules s.origin).nodes slot ≡ Some n)
-            × IsTurn (M.rules s.origin) (M.jobs s.origin) s.turns n slot self.old self.new out) }
-        ensures err { OnErr result (self.new ≡ record self.old { spoiled = true; broken = self.new.broken }) }
+            × IsTurn (M.rules s.origin) s.turns n slot self.old self.new out) }
+        ensures fits { IfOk result (λ out. (s : Start M.Origin) (j : M.Job) → N.start ≡ Some s → out ≡ TurnOut.Job j → M.fits s.origin j) }
+        ensures err { OnErr result (self.new ≡ record self.old { spoiled = true; broken = self.new.broken; jobs = self.new.jobs }) }
+        ensures still { OnErr result (self.new.broken ≡ false → self.new.jobs ≡ self.old.jobs) }
         ensures nodes { self.new.nodes ≡ self.old.nodes }
     {
         if self.spoiled {
@@ -190,12 +196,14 @@ impl<M: Machine, L: Link, N: Named<M::Origin>> Hub<M, L, N> {
 
     /// Gives back what was done of a job of a slot. Once the run has ended, it is stale.
     pub fn give(&mut self, slot: u32, done: &M::Done) -> Result<RanStep, NoMemory>
-        requires { slot < self.old.nodes }
+        requires slot { slot < self.old.nodes }
+        requires made { (s : Start M.Origin) × (N.start ≡ Some s) × (j : M.Job) × M.of_job s.origin j done.now }
         ensures over { IsSome self.old.ended → (result ≡ Ok Stale) × (self.new ≡ self.old) }
         ensures ok { IfOk result (λ out. self.old.ended ≡ None → (s : Start M.Origin) → N.start ≡ Some s
             → (n : NodeValue) × (slice_get (M.rules s.origin).nodes slot ≡ Some n)
-            × Gave (M.rules s.origin) (M.jobs s.origin) (λ j. M.of_job s.origin j done.now) n slot self.old self.new out) }
-        ensures err { OnErr result (self.new ≡ record self.old { spoiled = true; broken = self.new.broken }) }
+            × Gave (M.rules s.origin) (λ j. M.of_job s.origin j done.now) n slot self.old self.new out) }
+        ensures err { OnErr result (self.new ≡ record self.old { spoiled = true; broken = self.new.broken; jobs = self.new.jobs }) }
+        ensures still { OnErr result (self.new.broken ≡ false → self.new.jobs ≡ self.old.jobs) }
         ensures nodes { self.new.nodes ≡ self.old.nodes }
     {
         if self.ended.is_some() {
@@ -275,14 +283,21 @@ impl<M: Machine, L: Link, N: Named<M::Origin>> Hub<M, L, N> {
         true
     }
 
-    // The pending job of the slot's node, where it was not handed out.
+    // The pending job of the slot's node.
+    fn job(&self, slot: u32) -> Result<Option<M::Job>, NoMemory>
+        requires { slot < self.now.nodes }
+        ensures { IfOk result (λ o. AtNode N.start M.rules self.now slot (λ s n. o ≡ job_in self.now.jobs slot)) }
+    {
+        self.machine.job(self.alloc, slot)
+    }
+
+    // The same, where it was not handed out.
     fn job_left(&self, slot: u32) -> Result<Option<M::Job>, NoMemory>
         requires { slot < self.now.nodes }
         ensures { IfOk result (λ o. AtNode N.start M.rules self.now slot (λ s n.
-            MatchOption o (NoneLeft (M.jobs s.origin (history self.now) n) self.now.handed slot)
-            (IsLeft (M.jobs s.origin (history self.now) n) self.now.handed slot))) }
+            MatchOption o (NoneLeft (job_in self.now.jobs slot) self.now.handed slot) (IsLeft (job_in self.now.jobs slot) self.now.handed slot))) }
     {
-        let Some(job) = self.machine.job(self.alloc, slot)? else {
+        let Some(job) = self.job(slot)? else {
             return Ok(None);
         };
         match &self.handed[slot as usize] {
@@ -298,7 +313,7 @@ impl<M: Machine, L: Link, N: Named<M::Origin>> Hub<M, L, N> {
     // The case of a turn.
     fn case(&self, slot: u32) -> Result<TurnCase<M::Job>, NoMemory>
         requires { slot < self.now.nodes }
-        ensures { IfOk result (λ case. AtNode N.start M.rules self.now slot (λ s n. IsCase (M.rules s.origin) (M.jobs s.origin) s.turns n slot self.now case)) }
+        ensures { IfOk result (λ case. AtNode N.start M.rules self.now slot (λ s n. IsCase (M.rules s.origin) s.turns n slot self.now case)) }
     {
         if let Some(ended) = self.ended {
             return Ok(TurnCase::Over(ended));
@@ -327,10 +342,11 @@ impl<M: Machine, L: Link, N: Named<M::Origin>> Hub<M, L, N> {
         requires whole { self.old.broken ≡ false }
         requires sound { self.old.spoiled ≡ false }
         requires case { (s : Start M.Origin) (n : NodeValue) → N.start ≡ Some s → slice_get (M.rules s.origin).nodes slot ≡ Some n
-            → IsCase (M.rules s.origin) (M.jobs s.origin) s.turns n slot self.old case }
+            → IsCase (M.rules s.origin) s.turns n slot self.old case }
         ensures ok { IfOk result (λ out. (s : Start M.Origin) (n : NodeValue) → N.start ≡ Some s → slice_get (M.rules s.origin).nodes slot ≡ Some n
             → Does (M.rules s.origin) n slot self.old self.new out case) }
-        ensures err { OnErr result (self.new ≡ record self.old { spoiled = self.new.spoiled; broken = self.new.broken }) }
+        ensures err { OnErr result (self.new ≡ record self.old { spoiled = self.new.spoiled; broken = self.new.broken; jobs = self.new.jobs }) }
+        ensures still { OnErr result (self.new.broken ≡ false → self.new.jobs ≡ self.old.jobs) }
         ensures nodes { self.new.nodes ≡ self.old.nodes }
     {
         let _node = self.node(slot);
@@ -369,11 +385,11 @@ impl<M: Machine, L: Link, N: Named<M::Origin>> Hub<M, L, N> {
     fn hand_out(&mut self, slot: u32) -> Result<(), NoMemory>
         requires { slot < self.old.nodes }
         ensures ok { OnOk result (AtNode N.start M.rules self.old slot (λ s n.
-            self.new ≡ record self.old { handed = slice_set self.old.handed slot (M.jobs s.origin (history self.old) n) })) }
+            self.new ≡ record self.old { handed = slice_set self.old.handed slot (job_in self.old.jobs slot) })) }
         ensures err { OnErr result (self.new ≡ self.old) }
         ensures nodes { self.new.nodes ≡ self.old.nodes }
     {
-        let job = self.machine.job(self.alloc, slot)?;
+        let job = self.job(slot)?;
         self.handed[slot as usize] = job;
         Ok(())
     }
@@ -386,7 +402,7 @@ impl<M: Machine, L: Link, N: Named<M::Origin>> Hub<M, L, N> {
         requires running { (s : Start M.Origin) → N.start ≡ Some s → self.old.ended ≡ None }
         requires turns { AtNode N.start M.rules self.old slot (λ s n. nat_le s.turns (turns_made n (history self.old)) ≡ false) }
         ensures ok { IfOk result (λ out. AtNode N.start M.rules self.old slot (λ s n. Asked (M.rules s.origin) n self.old self.new out)) }
-        ensures err { OnErr result (self.new ≡ record self.old { spoiled = true; broken = true }) }
+        ensures err { OnErr result (self.new ≡ record self.old { spoiled = true; broken = true; jobs = self.new.jobs }) }
         ensures nodes { self.new.nodes ≡ self.old.nodes }
     {
         let node = self.node(slot);
@@ -410,9 +426,10 @@ impl<M: Machine, L: Link, N: Named<M::Origin>> Hub<M, L, N> {
         requires slot { slot < self.old.nodes }
         requires whole { self.old.broken ≡ false }
         requires running { self.old.ended ≡ None }
+        requires made { (s : Start M.Origin) × (N.start ≡ Some s) × (j : M.Job) × M.of_job s.origin j done.now }
         ensures ok { IfOk result (λ out. AtNode N.start M.rules self.old slot (λ s n.
-            Gave (M.rules s.origin) (M.jobs s.origin) (λ j. M.of_job s.origin j done.now) n slot self.old self.new out)) }
-        ensures err { OnErr result (self.new ≡ record self.old { spoiled = true; broken = true }) }
+            Gave (M.rules s.origin) (λ j. M.of_job s.origin j done.now) n slot self.old self.new out)) }
+        ensures err { OnErr result (self.new ≡ record self.old { spoiled = true; broken = true; jobs = self.new.jobs }) }
         ensures nodes { self.new.nodes ≡ self.old.nodes }
     {
         let node = self.node(slot);

@@ -5,7 +5,8 @@
 //! marks, turns and counts, each of which the journal fixes).
 //!
 //! The proofs follow one more event through all of it: a link that picked or did not (`proofs/Linking`), marks, turns and
-//! the end after a pick (`Ends`), and a segment that was given back (`Giving`).
+//! the end after a pick (`Ends`), and a segment that was given back (`Giving`). Which job is pending, the machine alone
+//! says: its jobs in the order of the slots (`Jobs`), and the one that a turn hands out (`Handing`).
 #![tactic(auto)]
 
 mod hub;

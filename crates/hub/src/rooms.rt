@@ -51,7 +51,8 @@ pub fn pick_at<M: Machine, L: Link>(
     links: &mut Vec<L>,
     slot: u32,
 ) -> Result<Pick, NoMemory>
-    requires { (slot < length links.old.items) × (slot < M.count machine.now) }
+    requires slots { (slot < length links.old.items) × (slot < M.count machine.now) }
+    requires usable { M.usable machine.now }
     ensures ok { IfOk result (λ p. (o : M.Origin) (h : History) (n : NodeValue) → M.stands machine.now o h → slice_get (M.rules o).nodes slot ≡ Some n
         → (a b : LinkState) × (slice_get (map L.state_of links.old.items) slot ≡ Some a)
         × IsPicked ((M.rules o).menu h n) p a b

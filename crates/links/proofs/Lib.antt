@@ -1,3 +1,4 @@
 pub mod Recovered
 pub mod LateLemmas
 pub mod ChoiceLemmas
+mod ChoosingLemmas

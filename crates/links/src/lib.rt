@@ -6,6 +6,7 @@
 //! code's two lists of late envelopes are one list of the definitions in `specs/Drawings`.
 #![tactic(auto)]
 
+mod choosing;
 mod drawing;
 mod fair;
 mod fairly;
@@ -14,6 +15,7 @@ mod planned;
 mod ruled;
 mod seeded;
 
+pub use choosing::{Chosen, choose};
 pub use fair::FairLink;
 pub use listed::ListedLink;
 pub use seeded::SeededLink;

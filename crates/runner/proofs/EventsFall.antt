@@ -1,6 +1,6 @@
 -- An event leaves less to do: a pick that counts as a turn, an idle pick of a node without its mark, a segment that is used.
 use Rattle.std.proofs.Common.{◌≡◌, ◌≢◌, ℕ, suc, ◌+◌, ◌<◌, ◌≤◌, Bool, true, false, cond, not}
-use Rattle.std.proofs.Common.{◌||◌, ◌∷◌, length, Option, Some, is_some, inl, inr, refl, sym, ◌∙◌, ap, arith}
+use Rattle.std.proofs.Common.{◌||◌, ◌∷◌, length, Some, inl, inr, refl, sym, ◌∙◌, ap, arith}
 use Rattle.std.specs.Prelude.{nat_le, count_by}
 use Rattle.std.specs.List.{slice_get}
 use Rattle.std.proofs.lemmas.Bool.Decides.{nat_tests}
@@ -58,11 +58,11 @@ turn_falls m turns h slot n p here is left =
     (few_pending m (Picked n p ∷ h)) (few_unmarked m (Picked n p ∷ h))
 
 -- a pick that is not enabled, of a node without its mark
-pub idle_falls : {J : Type 0} (m : Machine) (jobs : History → NodeId → Option J) (turns : ℕ) (h : History) (slot : ℕ) (n : NodeId) (p : Pick) →
-    IsLawful m jobs → slice_get m.nodes slot ≡ Some n → m.effect h (Picked n p) ≡ Not_enabled → is_marked m h n ≡ false →
+pub idle_falls : (m : Machine) (turns : ℕ) (h : History) (slot : ℕ) (n : NodeId) (p : Pick) →
+    IsLawful m → slice_get m.nodes slot ≡ Some n → m.effect h (Picked n p) ≡ Not_enabled → is_marked m h n ≡ false →
     rank m turns (Picked n p ∷ h) < rank m turns h
 unfolding rank
-idle_falls m jobs turns h slot n p lawful here is unmarked =
+idle_falls m turns h slot n p lawful here is unmarked =
     fewer_unmarked (suc (length m.nodes)) (total (turns_left turns h) m.nodes) (total (turns_left turns (Picked n p ∷ h)) m.nodes)
     (total (pending_one m h) m.nodes) (total (pending_one m (Picked n p ∷ h)) m.nodes)
     (total (unmarked_one m h) m.nodes) (total (unmarked_one m (Picked n p ∷ h)) m.nodes)
@@ -75,9 +75,7 @@ idle_falls m jobs turns h slot n p lawful here is unmarked =
 
     pending_le : (k : NodeId) → pending_one m (Picked n p ∷ h) k ≤ pending_one m h k
     pending_le k =
-        let same : m.pending (Picked n p ∷ h) k ≡ m.pending h k =
-        lawful.pending (Picked n p ∷ h) k ∙ ap is_some ((lawful.still h (Picked n p) not_moved).job k) ∙ sym (lawful.pending h k) in
-        let eq = ap one_if same in
+        let eq = ap one_if ((lawful.still h (Picked n p) not_moved).pending k) in
         omega arith
 
     mark_is : (k : NodeId) → is_marked m (Picked n p ∷ h) k ≡ (same_node k n || is_marked m h k)
@@ -97,11 +95,11 @@ idle_falls m jobs turns h slot n p lawful here is unmarked =
         omega arith
 
 -- a segment of the pending job of a client
-pub ran_falls : {J : Type 0} (m : Machine) (jobs : History → NodeId → Option J) (turns : ℕ) (h : History) (slot c : ℕ) → IsLawful m jobs →
+pub ran_falls : (m : Machine) (turns : ℕ) (h : History) (slot c : ℕ) → IsLawful m →
     slice_get m.nodes slot ≡ Some (Client c) → m.effect h (Ran c) ≡ Moves → m.pending h (Client c) ≡ true →
     rank m turns (Ran c ∷ h) < rank m turns h
 unfolding rank
-ran_falls m jobs turns h slot c lawful here is pending =
+ran_falls m turns h slot c lawful here is pending =
     fewer_jobs (suc (length m.nodes)) (total (turns_left turns h) m.nodes) (total (turns_left turns (Ran c ∷ h)) m.nodes)
     (total (pending_one m h) m.nodes) (total (pending_one m (Ran c ∷ h)) m.nodes)
     (total (unmarked_one m h) m.nodes) (total (unmarked_one m (Ran c ∷ h)) m.nodes)

@@ -4,3 +4,4 @@ pub mod TurnsFall
 pub mod Rounds
 pub mod NodesFrom
 pub mod TurnsKept
+pub mod LinksBack

@@ -12,15 +12,16 @@ use Rattle.morty_base.specs.declared.names.Ended.TheVariants as ended
 use Rattle.msg.specs.declared.Pick.{Pick}
 use Rattle.msg.specs.declared.Pick.TheVariants.{Idle, Deliver, Go, Hurry, Recover, Truncate, Stop}
 use Rattle.msg.specs.declared.Event.TheVariants.{Picked, Ran}
-use Rattle.net_core.specs.Machine.{History, Machine, Effect, Moves, Refused, Not_enabled}
+use Rattle.net_core.specs.Machine.{Machine, Effect, Moves, Refused, Not_enabled}
 use Rattle.net_core.specs.Marks.{is_turn, turns_made, is_marked, is_quiet, rests}
 use Rattle.net_core.specs.Replay.{IsLawful, IsDue}
 use Rattle.net_core.specs.declared.machine.RanStep.{RanStep}
 use Rattle.net_core.specs.declared.machine.RanStep.TheVariants.{Used, Stale, Full}
 use Rattle.hub.specs.declared.turn_out.TurnCase.{TurnCase}
 use Rattle.hub.specs.declared.turn_out.TurnOut.{TurnOut}
-use Rattle.hub.specs.Views.{HubView, history}
-use Rattle.hub.specs.Turns.{IsTurn, IsCase, Does, Gave, NoneLeft, asked_out, ended_by, ended_out}
+use Rattle.hub.specs.Views.{HubView, history, job_in, HasPending}
+use Rattle.hub.specs.Turns.{IsTurn, IsCase, Does, Gave, NoneLeft, ended_by}
+use Rattle.hub.proofs.Handing.{IsHanded, handed_out}
 use Rattle.runner.specs.Progress.{IsRecalled, IsVisited, rank}
 use Rattle.runner.proofs.EventsFall.{turn_falls, idle_falls, ran_falls}
 
@@ -44,19 +45,13 @@ not_a_turn (Recover x) e = absurd (let t : true ≡ false = e in cc)
 not_a_turn (Truncate w) e = absurd (let t : true ≡ false = e in cc)
 not_a_turn Stop e = absurd (let t : true ≡ false = e in cc)
 
--- a turn that answers a job: of a run that has not ended, it hands out the pending job
-pub record IsHanded {J : Type 0} (m : Machine) (jobs : History → NodeId → Option J) (n : NodeId) (slot : ℕ) (old new : HubView J) (j : J) : Type 0 where
-  pub due : IsDue m jobs (history old) n j
-  pub no_end : old.ended ≡ None
-  pub handed : new ≡ record old { handed = set old.handed slot (Some j) }
-
-module _ {J : Type 0} (m : Machine) (jobs : History → NodeId → Option J) (lawful : IsLawful m jobs) (turns slot : ℕ) (n : NodeId)
+module _ {J : Type 0} (m : Machine) (lawful : IsLawful m) (turns slot : ℕ) (n : NodeId)
     (here : slice_get m.nodes slot ≡ Some n) where
   -- no job is pending where none is left and none was handed out
-  pub none_pending : (old : HubView J) (o : Option J) → IsRecalled m old → jobs (history old) n ≡ o →
+  pub none_pending : (old : HubView J) (o : Option J) → IsRecalled m old → HasPending m old → job_in old.jobs slot ≡ o →
       NoneLeft o old.handed slot → m.pending (history old) n ≡ false
-  none_pending old None on is left = lawful.pending (history old) n ∙ ap is_some is
-  none_pending old (Some j) on is left =
+  none_pending old None on pending is left = pending slot n here ∙ ap is_some is
+  none_pending old (Some j) on pending is left =
       let there : slice_get old.handed slot ≡ Some None =
       ap (λ hs. slice_get hs slot) on ∙ none_is_there None (length m.nodes) slot (slice_get_within m.nodes slot n here) in
       absurd (let t : ◌≡◌ {A = Option J} None (Some j) = left None j there refl in cc)
@@ -84,7 +79,7 @@ module _ {J : Type 0} (m : Machine) (jobs : History → NodeId → Option J) (la
   -- a pick of the node
   asked : (old new : HubView J) (p : Pick) (f : Effect) → IsRecalled m old → m.effect (history old) (Picked n p) ≡ f → is_marked m (history old) n ≡ false →
       nat_le turns (turns_made n (history old)) ≡ false →
-      new ≡ record old { journal = old.journal ++ Picked n p ∷ []; ended = ended_by f } → IsVisited m turns slot old new
+      new ≡ record old { journal = old.journal ++ Picked n p ∷ []; jobs = new.jobs; ended = ended_by f } → IsVisited m turns slot old new
   asked old new p Refused on is unmarked left same = ends old new ended.Full (ap (λ v. v.ended) same)
   asked old new p Moves on is unmarked left same = goes_on (is_turn p) refl
     where
@@ -108,7 +103,7 @@ module _ {J : Type 0} (m : Machine) (jobs : History → NodeId → Option J) (la
       inr (
         on',
         inl (subst (λ h. rank m turns h < rank m turns (history old)) (sym later)
-            (idle_falls m jobs turns (history old) slot n p lawful here is unmarked)),
+            (idle_falls m turns (history old) slot n p lawful here is unmarked)),
       )
 
   pub live_marked : (old : HubView J) → is_marked m (history old) n ≡ true → m.pending (history old) n ≡ false → rests m (history old) n ≡ true
@@ -119,64 +114,42 @@ module _ {J : Type 0} (m : Machine) (jobs : History → NodeId → Option J) (la
       or_true false = refl
 
   -- a turn that answers no job
-  visited : (old new : HubView J) (out : TurnOut J) (case : TurnCase J) → IsRecalled m old → ((j : J) → out ≢ TurnOut.Job j) →
-      IsCase m jobs turns n slot old case → Does m n slot old new out case → IsVisited m turns slot old new
-  visited old new out (TurnCase.Over e) on other is does = ends old new e (ap (λ v. v.ended) does.1 ∙ is)
-  visited old new out TurnCase.Quiet on other is does = ends old new ended.Quiet (ap (λ v. v.ended) does.1)
-  visited old new out TurnCase.Stopped on other is does =
+  visited : (old new : HubView J) (out : TurnOut J) (case : TurnCase J) → IsRecalled m old → HasPending m old → ((j : J) → out ≢ TurnOut.Job j) →
+      IsCase m turns n slot old case → Does m n slot old new out case → IsVisited m turns slot old new
+  visited old new out (TurnCase.Over e) on pending other is does = ends old new e (ap (λ v. v.ended) does.1 ∙ is)
+  visited old new out TurnCase.Quiet on pending other is does = ends old new ended.Quiet (ap (λ v. v.ended) does.1)
+  visited old new out TurnCase.Stopped on pending other is does =
       rested old new on does.1 (ap (λ b. not b || (is_marked m (history old) n && not (m.pending (history old) n))) is.1) is.0.not_quiet
-  visited old new out (TurnCase.Job j) on other is does = absurd (other j does.0)
-  visited old new out TurnCase.Marked on other is does =
-      rested old new on does.1 (live_marked old is.3 (none_pending old (jobs (history old) n) on refl is.2)) is.0.not_quiet
-  visited old new out TurnCase.Spent on other is does = ends old new ended.Spent (ap (λ v. v.ended) does.1)
-  visited old new out TurnCase.Ask on other is does = asked old new does.0 _ on refl is.3 is.4 does.2
+  visited old new out (TurnCase.Job j) on pending other is does = absurd (other j does.0)
+  visited old new out TurnCase.Marked on pending other is does =
+      rested old new on does.1 (live_marked old is.3 (none_pending old (job_in old.jobs slot) on pending refl is.2)) is.0.not_quiet
+  visited old new out TurnCase.Spent on pending other is does = ends old new ended.Spent (ap (λ v. v.ended) does.1)
+  visited old new out TurnCase.Ask on pending other is does = asked old new does.0 _ on refl is.3 is.4 does.2
 
   pub turn_visited : (old new : HubView J) (out : TurnOut J) → IsRecalled m old → ((j : J) → out ≢ TurnOut.Job j) →
-      IsTurn m jobs turns n slot old new out → IsVisited m turns slot old new
-  turn_visited old new out on other turn = visited old new out turn.case on other turn.is_case turn.does
+      IsTurn m turns n slot old new out → IsVisited m turns slot old new
+  turn_visited old new out on other turn = visited old new out turn.case on turn.pending other turn.is_case turn.does
 
-  -- a turn that answers a job
-  pub handed_out : (old new : HubView J) (j : J) (case : TurnCase J) → IsCase m jobs turns n slot old case →
-      Does m n slot old new (TurnOut.Job j) case → IsHanded m jobs n slot old new j
-  handed_out old new j (TurnCase.Over e) is does = over e does.0
-    where
-      over : (e : Ended) → TurnOut.Job j ≡ ended_out e → IsHanded m jobs n slot old new j
-      over ended.Quiet t = absurd (let u : TurnOut.Job j ≡ TurnOut.Quiet = t in cc)
-      over ended.Spent t = absurd (let u : TurnOut.Job j ≡ TurnOut.Spent = t in cc)
-      over ended.Full t = absurd (let u : TurnOut.Job j ≡ TurnOut.Full = t in cc)
-  handed_out old new j TurnCase.Quiet is does = absurd (let t : TurnOut.Job j ≡ TurnOut.Quiet = does.0 in cc)
-  handed_out old new j TurnCase.Stopped is does = absurd (let t : TurnOut.Job j ≡ TurnOut.Stopped = does.0 in cc)
-  handed_out old new j (TurnCase.Job k) is does =
-      let t : TurnOut.Job j ≡ TurnOut.Job k = does.0 in
-      let same : j ≡ k = cc in
-      record {
-        due = record { live = is.1; job = is.2.0 ∙ ap (λ x. Some x) (sym same) };
-        no_end = is.0.no_end;
-        handed = does.1 ∙ ap (λ x. record old { handed = set old.handed slot (Some x) }) (sym same);
-      }
-  handed_out old new j TurnCase.Marked is does = absurd (let t : TurnOut.Job j ≡ TurnOut.Idle = does.0 in cc)
-  handed_out old new j TurnCase.Spent is does = absurd (let t : TurnOut.Job j ≡ TurnOut.Spent = does.0 in cc)
-  handed_out old new j TurnCase.Ask is does = no_job _ does.1
-    where
-      no_job : (f : Effect) → TurnOut.Job j ≡ asked_out f → IsHanded m jobs n slot old new j
-      no_job Moves t = absurd (let u : TurnOut.Job j ≡ TurnOut.Moved = t in cc)
-      no_job Refused t = absurd (let u : TurnOut.Job j ≡ TurnOut.Full = t in cc)
-      no_job Not_enabled t = absurd (let u : TurnOut.Job j ≡ TurnOut.Idle = t in cc)
+  -- after a turn that answers a job the run has not ended
+  pub not_ended : (old mid : HubView J) (j : J) → IsTurn m turns n slot old mid (TurnOut.Job j) → mid.ended ≡ None
+  not_ended old mid j turn =
+      let told = handed_out m turns slot n old mid j turn.case turn.is_case turn.does in ap (λ v. v.ended) told.handed ∙ told.no_end
 
-  -- so the job is due, and a segment of it is not stale
-  pub job_is_due : (old mid : HubView J) (j : J) → IsTurn m jobs turns n slot old mid (TurnOut.Job j) → jobs (history old) n ≡ Some j
-  job_is_due old mid j turn = (handed_out old mid j turn.case turn.is_case turn.does).due.job
+  -- the job is due, and its node has a pending one
+  pub due_then : (old mid : HubView J) (j : J) → IsHanded m n slot old mid j → IsDue m (job_in mid.jobs slot) (history mid) n j
+  due_then old mid j told = subst (λ (v : HubView J). IsDue m (job_in v.jobs slot) (history v) n j) (sym told.handed)
+      (record { live = told.due.live; job = told.due.job })
 
-  pub not_ended : (old mid : HubView J) (j : J) → IsTurn m jobs turns n slot old mid (TurnOut.Job j) → mid.ended ≡ None
-  not_ended old mid j turn = let told = handed_out old mid j turn.case turn.is_case turn.does in ap (λ v. v.ended) told.handed ∙ told.no_end
+  pub is_pending : (old mid : HubView J) (j : J) → HasPending m old → IsHanded m n slot old mid j → m.pending (history old) n ≡ true
+  is_pending old mid j pending told = pending slot n here ∙ ap is_some told.due.job
 
   -- and its segment, which is given back
   pub given_visited : (of_job : J → Type 0) (old mid new : HubView J) (j : J) (out : RanStep) → IsRecalled m old →
-      IsTurn m jobs turns n slot old mid (TurnOut.Job j) → of_job j → Gave m jobs of_job n slot mid new out → IsVisited m turns slot old new
+      IsTurn m turns n slot old mid (TurnOut.Job j) → of_job j → Gave m of_job n slot mid new out → IsVisited m turns slot old new
   given_visited of_job old mid new j out on turn is_of gave = given out gave
     where
-      told : IsHanded m jobs n slot old mid j
-      told = handed_out old mid j turn.case turn.is_case turn.does
+      told : IsHanded m n slot old mid j
+      told = handed_out m turns slot n old mid j turn.case turn.is_case turn.does
 
       same : history mid ≡ history old
       same = ap history told.handed
@@ -186,14 +159,14 @@ module _ {J : Type 0} (m : Machine) (jobs : History → NodeId → Option J) (la
           ap (λ v. set v.handed slot None) told.handed
           ∙ ap (λ hs. set (set hs slot (Some j)) slot None) on ∙ set_back None (Some j) (length m.nodes) slot
 
-      given : (out : RanStep) → Gave m jobs of_job n slot mid new out → IsVisited m turns slot old new
-      given Stale gave = absurd (gave.0 j (subst (λ h. IsDue m jobs h n j) (sym same) told.due) is_of)
+      given : (out : RanStep) → Gave m of_job n slot mid new out → IsVisited m turns slot old new
+      given Stale gave = absurd (gave.0 j (due_then old mid j told) is_of)
       given Full gave = ends old new ended.Full (ap (λ v. v.ended) gave.2)
       given Used gave =
           let c = gave.0 in
           let node : n ≡ Client c = gave.1.node in
           let pending : m.pending (history old) (Client c) ≡ true =
-          ap (m.pending (history old)) (sym node) ∙ lawful.pending (history old) n ∙ ap is_some told.due.job in
+          ap (m.pending (history old)) (sym node) ∙ is_pending old mid j turn.pending told in
           let moves : m.effect (history old) (Ran c) ≡ Moves = ap (λ h. m.effect h (Ran c)) (sym same) ∙ gave.1.effect in
           let later : history new ≡ Ran c ∷ history old =
           ap history gave.2 ∙ reverse-append mid.journal (Ran c ∷ []) ∙ ap (λ h. Ran c ∷ h) same in
@@ -201,5 +174,5 @@ module _ {J : Type 0} (m : Machine) (jobs : History → NodeId → Option J) (la
           inr (
             on',
             inl (subst (λ h. rank m turns h < rank m turns (history old)) (sym later)
-                (ran_falls m jobs turns (history old) slot c lawful (here ∙ ap (λ k. Some k) node) moves pending)),
+                (ran_falls m turns (history old) slot c lawful (here ∙ ap (λ k. Some k) node) moves pending)),
           )

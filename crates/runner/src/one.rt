@@ -35,6 +35,7 @@ pub fn run_one<M: Machine, L: Link, N: Named<M::Origin>>(
         → r.rans ≡ rans_in (M.rules s.origin) (history hub.new) - rans_in (M.rules s.origin) (history hub.old)) }
     ensures rounds { OnOk result ((s : Start M.Origin) → N.start ≡ Some s → hub.old.journal ≡ [] → hub.old.ended ≡ None
         → InRounds (M.rules s.origin) s.turns (history hub.new)) }
+    ensures whole { OnOk result (hub.new.broken ≡ false) }
     ensures err { OnErr result (hub.new.spoiled ≡ true) }
 {
     let first = hub.counted();
@@ -61,6 +62,7 @@ fn run_rounds<M: Machine, L: Link, N: Named<M::Origin>>(
     ensures end { IfOk result (λ e. (s : Start M.Origin) → N.start ≡ Some s → end_of (M.rules s.origin) s.turns (history hub.new) ≡ Some e) }
     ensures rounds { OnOk result ((s : Start M.Origin) → N.start ≡ Some s → IsAtSlot (M.rules s.origin) s.turns 0 hub.old
         → InRounds (M.rules s.origin) s.turns (history hub.new)) }
+    ensures whole { OnOk result (hub.new.broken ≡ false) }
     ensures err { OnErr result (hub.new.spoiled ≡ true) }
 {
     'rounds: loop {

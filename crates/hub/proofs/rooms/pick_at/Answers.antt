@@ -9,7 +9,7 @@ returns-clause-ok g c =
     let picked = rw is at c.pick.ensures.ok in (
       g.L.Link.state_of c.index_mut.result.now,
       g.L.Link.state_of c.pick.new.self,
-      get_map g.L.Link.state_of c.args.links.now.items c.args.slot c.index_mut.result.now c.requires.0 c.index_mut.ensures.value,
+      get_map g.L.Link.state_of c.args.links.now.items c.args.slot c.index_mut.result.now c.requires.slots.0 c.index_mut.ensures.value,
       rw (← shows) picked,
       map_set g.L.Link.state_of c.args.links.now.items c.args.slot c.pick.new.self,
     ))

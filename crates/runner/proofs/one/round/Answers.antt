@@ -13,6 +13,7 @@ loop-slot-preserved g c =
     record {
       nodes = c.in_ok-visit.ensures.nodes ∙ c.loop-slot.invariant.nodes;
       last = c.loop-slot.invariant.last;
+      some = c.loop-slot.invariant.some;
       all = c.loop-slot.invariant.all;
       so_far = λ s is on.
           let so = c.loop-slot.invariant.so_far s is on in
@@ -30,7 +31,7 @@ returns-clause-ok g c = λ s is on.
     let all = c.loop-slot.invariant.all s is in
     let over : c.loop-slot.slot ≡ length m.nodes = omega (arith, all, c.loop-slot-test.false, c.loop-slot.auto) in
     let so = subst (λ k. IsRoundSoFar m s.turns k c.args.hub.now c.loop-slot.hub) over (c.loop-slot.invariant.so_far s is on) in
-    inr (all_visited m s.turns c.args.hub.now c.loop-slot.hub (g.met.M.Machine.lawful s.origin).some_node so)
+    inr (all_visited m s.turns c.args.hub.now c.loop-slot.hub (omega (arith, all, c.loop-slot.invariant.some)) so)
 
 pub returns-clause-keeps : goal.returns-clause-keeps
 returns-clause-keeps g c = λ s is on at.

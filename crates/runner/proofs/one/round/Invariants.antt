@@ -1,4 +1,4 @@
-use Rattle.std.proofs.Common.{◌≡◌, length, Some}
+use Rattle.std.proofs.Common.{◌≡◌, ◌≤◌, length, Some}
 use Rattle.hub.specs.Starts.{Start}
 use Rattle.runner.specs.AtSlot.{IsAtSlot}
 use Rattle.runner.specs.Progress.{IsRecalled, IsRoundSoFar}
@@ -8,6 +8,7 @@ abbrev pub invariant-loop-slot : goal.invariant-loop-slot
 invariant-loop-slot g l = record {
   nodes : l.hub.nodes ≡ l.fn.hub.nodes;
   last : l.slot-end ≡ l.fn.hub.nodes;
+  some : 1 ≤ l.slot-end;
   all : (s : Start g.row.M-Origin.Denot) → g.N.Named.start ≡ Some s → l.slot-end ≡ length (g.M.Machine.rules s.origin).nodes;
   so_far : (s : Start g.row.M-Origin.Denot) → g.N.Named.start ≡ Some s → IsRecalled (g.M.Machine.rules s.origin) l.fn.hub →
       IsRoundSoFar (g.M.Machine.rules s.origin) s.turns l.slot l.fn.hub l.hub;

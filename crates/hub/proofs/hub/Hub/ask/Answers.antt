@@ -1,4 +1,4 @@
-use Rattle.std.proofs.Common.{◌≡◌, ◌∷◌, [], ◌++◌, ◌<◌, ◌+◌, ◌-◌, ◌^◌, ◌≤◌, false, Option, Some, refl, sym, ◌∙◌, ap, arith, rules}
+use Rattle.std.proofs.Common.{◌≡◌, ◌∷◌, [], ◌++◌, ◌<◌, ◌+◌, ◌-◌, ◌^◌, ◌≤◌, false, map, Option, Some, refl, sym, ◌∙◌, ap, arith, rules}
 use Rattle.std.specs.Prelude.{reverse}
 use Rattle.std.proofs.lemmas.Bool.Decides.{nat_tests}
 use Rattle.std.proofs.lemmas.List.{reverse-append, length-reverse}
@@ -6,8 +6,10 @@ use Rattle.morty_base.specs.declared.names.NodeId.{NodeId}
 use Rattle.msg.specs.declared.Event.TheVariants.{Picked}
 use Rattle.net_core.specs.Marks.{turns_made}
 use Rattle.hub.specs.Turns.{marks_after, turns_after}
+use Rattle.hub.specs.Views.{nodes_of}
+use Rattle.hub.proofs.Jobs.{same_jobs}
 use Rattle.hub.proofs.Linking.{links_pick}
-use Rattle.hub.proofs.Ends.{marks_pick, turns_pick, picks_in_le, own_node, others_differ, ends_full, not_full_by}
+use Rattle.hub.proofs.Ends.{marks_pick, turns_pick, picks_in_le, own_node, others_differ, ends_full, not_full_by, not_moved}
 use Rattle.hub.proofs.hub.Hub.ask.Goals as goal
 
 pub invariant_of-self-2 : goal.invariant_of-self-2
@@ -67,6 +69,7 @@ invariant_of-self-2 g c =
           }),
       λ _. refl,
       λ s is. c.in_ok-pick.ensures.count ∙ c.self.invariant.5 s is,
+      c.in_ok-out.ensures.usable,
     )
 
 pub returns-clause-ok : goal.returns-clause-ok
@@ -86,9 +89,12 @@ returns-clause-ok g c = λ _ s n is here.
       λ i. record {
         nodes = c.in_ok-pick.ensures.count i;
         journal = items i;
+        jobs = map (g.M.Machine.jobs c.step.new.self) (nodes_of g.N.Named.start g.M.Machine.rules);
         handed = c.self.inside.handed.items;
         ended = ended i;
         spoiled = sym sound i;
         broken = sym whole i;
       },
+      λ other. same_jobs (nodes_of g.N.Named.start g.M.Machine.rules) (g.M.Machine.jobs c.self.inside.machine) (g.M.Machine.jobs c.step.new.self)
+          (c.in_ok-out.ensures.still (not_moved _ _ step.1 other)),
     )

@@ -10,7 +10,7 @@ pub invariant_of-result : goal.invariant_of-result
 invariant_of-result g c =
     rw (c.new.ensures.items, c.in_ok-marks.ensures, c.in_ok-made.ensures, c.in_ok-handed.ensures)
     (let n = c.nodes-nodes.result in
-    let counts : n ≡ length c.args.links.items = c.nodes-nodes.ensures ∙ sym c.requires.links in
+    let counts : n ≡ length c.args.links.items = c.nodes-nodes.ensures.count ∙ sym c.requires.links in
     let states = map g.L.Link.state_of c.args.links.items in (
       record {
         few = (let fits = c.nodes-nodes.type_inv in search rules);
@@ -25,7 +25,7 @@ invariant_of-result g c =
           let at = c.requires.start s is in
           let m = g.M.Machine.rules s.origin in
           let count = g.met.M.Machine.counted c.args.machine s.origin [] at.0 in
-          let all : n ≡ length m.nodes = c.nodes-nodes.ensures ∙ count in
+          let all : n ≡ length m.nodes = c.nodes-nodes.ensures.count ∙ count in
           record {
             run = record {
               replay = at.0;
@@ -38,5 +38,6 @@ invariant_of-result g c =
             not_full = λ none. refl;
           },
       λ whole. refl,
-      λ s is. sym counts ∙ c.nodes-nodes.ensures ∙ g.met.M.Machine.counted c.args.machine s.origin [] (c.requires.start s is).0,
+      λ s is. sym counts ∙ c.nodes-nodes.ensures.count ∙ g.met.M.Machine.counted c.args.machine s.origin [] (c.requires.start s is).0,
+      c.requires.usable,
     ))
