@@ -24,5 +24,12 @@ pub mod SayItems
 pub mod CanonicalPieces
 pub mod CanonicalIsSaid
 pub mod BuilderLemmas
-mod ReadableItems
+pub mod ReadableItems
+pub mod SayableSoFar
+pub mod SayableSettings
+pub mod SayableStores
+pub mod SayablePrograms
+pub mod SayableClients
+pub mod SayablePlans
+pub mod SaidIsSayable
 pub mod ReadLemmas

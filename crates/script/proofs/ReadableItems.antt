@@ -139,7 +139,7 @@ module _ (text : List ℕ) where
   only_tells true u e = refl
   only_tells false u e = cc
 
-  name_told : (t : Token) → IsTold (token symbol.Name) t → is_name (token_bytes text t) ≡ true
+  pub name_told : (t : Token) → IsTold (token symbol.Name) t → is_name (token_bytes text t) ≡ true
   unfolding token
   name_told t h =
       let x = h.of.1 in
@@ -240,10 +240,14 @@ module _ (text : List ℕ) where
   have_tokens from [] h = tt
   have_tokens from (t ∷ tokens) h = (record { symbol = refl; kind = h.1.kind }, have_tokens t.end tokens h.2)
 
-  pub readable : (items : List Item) → HasItems text items → Each (IsReadable text) items
-  readable items has =
+  -- all that the grammar tells of the items of a text
+  pub items_told : (items : List Item) → HasItems text items → IsTold script items
+  items_told items has =
       let ls = lexemes text has.tokens in
-      script_told items (told script ls items has.is_script.derived (record {
+      told script ls items has.is_script.derived (record {
         have = have_tokens 0 has.tokens (tokens_lie_in_order text has.tokens has.are_tokens);
         within = has.is_script.within;
-      }))
+      })
+
+  pub readable : (items : List Item) → HasItems text items → Each (IsReadable text) items
+  readable items has = script_told items (items_told items has)

@@ -5,8 +5,8 @@
 //! after another (`Meaning`), and the checks that they pass (`Checks`); what the tokens are in the second stage
 //! (`Stages`), and what a text says: its script or its one fault (`Texts`); a setup while
 //! items are taken (`Building`); the canonical text of a script (`Canonical`), the
-//! scripts that some text says (`Sayable`), and that their canonical text says them (`ReadBack`). `Groups` tells the
-//! reader's way.
+//! scripts that some text says (`Sayable`), that a text says no others, and that their canonical text says them
+//! (`ReadBack`). `Groups` tells the reader's way.
 //!
 //! The proof: what a rule derives begins as the rule may begin (`Starts`), so a rule that fits is read from each list that
 //! begins with what it derives (`RulesComplete`). What was read is derived, and a fault is at the first token with which
@@ -20,10 +20,14 @@
 //! The lines of a sayable script are pieces with the bytes of their kinds (`CanonicalPieces`). Line by line their tokens are
 //! items that pass their checks and say what they should (`SayLemmas`, then `SaySettings`, `SayStores`, `SayPrograms`,
 //! `SayClients`, `SayPlans`, `SayItems`); so the canonical text says the script (`CanonicalIsSaid`).
+//!
+//! And what a text says is sayable: items that pass their checks leave what is said within the limits (`SayableSoFar`), each
+//! kind of them in its turn (`SayableSettings`, `SayableStores`, `SayablePrograms`, `SayableClients`, `SayablePlans`), and a
+//! text has the kinds in that order (`SaidIsSayable`).
 #![tactic(auto)]
 
 ghost use Rattle.script.specs.Texts.{OneOutcome};
-ghost use Rattle.script.specs.ReadBack.{CanonicalIsReadBack};
+ghost use Rattle.script.specs.ReadBack.{CanonicalIsReadBack, SaidIsSayable};
 
 mod builder;
 mod client_text;
@@ -62,6 +66,11 @@ pub use text::script_text;
 /// Each text says one script or has one fault, and not both.
 pub fn one_outcome()
     ensures { OneOutcome }
+{}
+
+/// A script that some text says keeps the limits of scripts.
+pub fn said_is_sayable()
+    ensures { SaidIsSayable }
 {}
 
 /// The canonical text of a setup that some text says, says that setup and nothing else.
