@@ -31,11 +31,12 @@ fn setup_of(alloc: Global, text: &[u8], list: &[RawItem]) -> Result<Setup, TextF
 }
 
 /// The setup that a text says, or its one fault: of its first bad token; else of the first token with which no script
-/// goes on, or that is past a limit; else of the first item that means nothing. The canonical text of a setup that some
-/// text says is read as that setup.
+/// goes on, or that is past a limit; else of the first item that means nothing. A setup is within the limits of scripts.
+/// The canonical text of a setup that some text says is read as that setup.
 pub fn read_script(alloc: Global, bytes: &[u8]) -> Result<Setup, TextFault>
     requires { length bytes.now < u32.MAX }
     ensures says { IsReadOf bytes.now result }
+    ensures within { IfOk result IsSetup }
     ensures back { (s : SetupValue) → IsSetup s → bytes.now ≡ canonical_script s → IsReadBack s result }
 {
     let toks = tokens(alloc, bytes)?;

@@ -1,4 +1,4 @@
--- The tokens, their items, and what they say; and a canonical text says its setup alone.
+-- The tokens, their items, and what they say; a setup is within the limits, and a canonical text says its setup alone.
 use Rattle.std.proofs.Common.{◌≡◌, ℕ, List, All, Result, Ok, Err, sym, subst}
 use Rattle.std.proofs.lemmas.Result.{err_from_is_err_and}
 use Rattle.txn_text.specs.Tokens.{tokens_of}
@@ -18,6 +18,7 @@ use Rattle.script.specs.Texts.{IsScriptOf, IsReadOf}
 use Rattle.script.specs.ReadBack.{IsReadBack}
 use Rattle.script.proofs.OneOutcome.{one_outcome}
 use Rattle.script.proofs.CanonicalIsSaid.{canonical_is_said}
+use Rattle.script.proofs.SaidIsSayable.{read_is_sayable}
 use Rattle.script.proofs.ReadLemmas.{read_items_readable, read_of, badly_put_of, bad_token_of}
 use Rattle.script.proofs.read.read_script.Goals as goal
 
@@ -67,3 +68,6 @@ returns-clause-says c =
 
 pub returns-clause-back : goal.returns-clause-back
 returns-clause-back c = read_back c.args.bytes.now _ (returns-clause-says c)
+
+pub returns-clause-within : goal.returns-clause-within
+returns-clause-within c = read_is_sayable c.args.bytes.now _ (returns-clause-says c)
