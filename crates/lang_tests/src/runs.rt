@@ -1,6 +1,6 @@
 use crate::programs::{five, pay, twice};
 use morty_base::{Ending, Key, NoMemory};
-use serial_ref::{Entry, Map, Stop, run_on_answers, run_on_map, serial};
+use serial_runs::{Entry, Map, Stop, run_on_answers, run_on_map};
 use std::alloc::Global;
 use std::process::Abort;
 use std::test::Fail;
@@ -74,12 +74,10 @@ fn runs_one_after_another(rt: HostRuntime) -> Result<(), Fail> {
     let first = pay(alloc)?;
     let second = twice(alloc)?;
     let cells = cells(alloc, &[30])?;
-    let done = serial(alloc, cells, &[&first, &second])?;
-    assert_eq!(rt; done.cells.get(x(1)), 20);
-    match done.runs.get(1) {
-        Some(run) => assert_eq!(rt; run.did.out.as_slice(), [20].as_slice()),
-        None => panic!(rt; "two programs ran"),
-    }
+    let (_, cells) = run_on_map(alloc, &first, cells)?;
+    let (run, cells) = run_on_map(alloc, &second, cells)?;
+    assert_eq!(rt; cells.get(x(1)), 20);
+    assert_eq!(rt; run.did.out.as_slice(), [20].as_slice());
     Ok(())
 }
 

@@ -1,12 +1,12 @@
 ghost use Rattle.std.specs.Prelude.{◌≡◌, IfOk, map};
-ghost use Rattle.serial_ref.specs.Execution.{run_of_serial};
+ghost use Rattle.serial_runs.specs.Execution.{run_of_serial};
 ghost use Rattle.serial_rows.specs.Rows.{read_row, item_of, commit_row};
 
 use crate::item::Versioned;
 use morty_base::{Exec, List, NoMemory, Version, Wid};
 use msg::Read;
 use report::CommitRow;
-use serial_ref::{Entry, SerialRun};
+use serial_runs::{Entry, SerialRun};
 use std::alloc::Global;
 
 // The name of the write that gave each key its first value.

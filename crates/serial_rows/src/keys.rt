@@ -3,7 +3,7 @@ ghost use Rattle.txn_lang.specs.Keys.{Entry as EntryValue, after_writes};
 ghost use Rattle.serial_rows.specs.Keys.{AreKeys};
 
 use morty_base::{Key, NoMemory};
-use serial_ref::Entry;
+use serial_runs::Entry;
 use std::collections::BTreeSet;
 
 /// The key of one more entry.

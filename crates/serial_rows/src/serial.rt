@@ -6,7 +6,7 @@ use crate::item::Versioned;
 use crate::table::Table;
 use morty_base::{List, NoMemory};
 use report::Rows;
-use serial_ref::Entry;
+use serial_runs::Entry;
 use std::alloc::Global;
 
 /// The rows of programs that run one after another in this order, on first values. The first of the values that are listed

@@ -1,13 +1,13 @@
 ghost use Rattle.std.specs.Prelude.{◌≡◌, ◌∷◌, IfOk, OnOk, List as ListValue};
 ghost use Rattle.txn_lang.specs.Keys.{Entry as EntryValue};
 ghost use Rattle.txn_lang.specs.Program.{serial_of, map_after};
-ghost use Rattle.serial_ref.specs.Execution.{run_of_serial};
+ghost use Rattle.serial_runs.specs.Execution.{run_of_serial};
 ghost use Rattle.serial_rows.specs.Values.{AreValues};
 
 use crate::keys::{add_key, add_keys};
 use morty_base::{Key, List, NoMemory};
 use report::ValueRow;
-use serial_ref::{Entry, Map, SerialRun, run_on_map};
+use serial_runs::{Entry, Map, SerialRun, run_on_map};
 use std::alloc::Global;
 use std::collections::BTreeSet;
 use txn_lang::Prog;

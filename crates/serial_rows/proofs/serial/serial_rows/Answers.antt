@@ -2,7 +2,7 @@ use Rattle.std.proofs.Common.{◌≡◌, ◌+◌, List, ◌∷◌, [], ◌++◌,
 use Rattle.std.proofs.lemmas.List.{drop_more, drop_all}
 use Rattle.txn_lang.specs.Keys.{Entry}
 use Rattle.txn_lang.specs.Program.{map_after, last_map}
-use Rattle.serial_ref.specs.Execution.{run_of_serial}
+use Rattle.serial_runs.specs.Execution.{run_of_serial}
 use Rattle.serial_rows.specs.Values.{AreValues}
 use Rattle.serial_rows.specs.Rows.{programs_of, item_of}
 use Rattle.serial_rows.proofs.OneMore.{rows_left, one_more_row, one_more_map}

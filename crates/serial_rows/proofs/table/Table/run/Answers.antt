@@ -3,7 +3,7 @@ use Rattle.txn_lang.specs.Keys.{after_writes}
 use Rattle.txn_lang.specs.Runs.{kept}
 use Rattle.txn_lang.specs.Program.{serial_of, map_after}
 use Rattle.txn_lang.proofs.SameMaps.{serial_of_same, map_after_same}
-use Rattle.serial_ref.specs.Execution.{run_of_serial}
+use Rattle.serial_runs.specs.Execution.{run_of_serial}
 use Rattle.serial_rows.specs.Keys.{AreKeys}
 use Rattle.serial_rows.proofs.TableLemmas.{same_through}
 use Rattle.serial_rows.proofs.table.Table.run.Goals as goal

@@ -1,4 +1,0 @@
-pub mod MapLemmas
-pub mod SerialLemmas
-pub mod ExecutionLemmas
-pub mod RepeatLemmas
