@@ -1,0 +1,3 @@
+pub mod SerialItem
+pub mod FirstTries
+pub mod Serial
