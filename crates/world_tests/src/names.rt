@@ -6,6 +6,8 @@ pub(crate) const CLIENT1: NodeId = NodeId::Client(1);
 
 pub(crate) const CLIENT2: NodeId = NodeId::Client(2);
 
+pub(crate) const CLIENT3: NodeId = NodeId::Client(3);
+
 pub(crate) const REPLICA1: NodeId = NodeId::Replica(1);
 
 pub(crate) const REPLICA2: NodeId = NodeId::Replica(2);

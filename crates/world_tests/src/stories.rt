@@ -7,7 +7,10 @@ ghost use Rattle.world_tests.specs.Playing.{IsWorldOf};
 
 use crate::beginning::{RAISES, first};
 use crate::dropping::{RAISES_AND_LOOKS, drops, too_old};
-use crate::missing::{WRITES_AND_ADDS, WRITES_AND_STOPS, again, followed, told, unsure, vanishes};
+use crate::missing::{
+    WRITES_AND_ADDS, WRITES_AND_BRANCHES, WRITES_AND_STOPS, again, branches, followed, told,
+    unsure, vanishes,
+};
 use crate::playing::{Row, Way, is_stale, play, work};
 use crate::recovering::{RAISES_BESIDE_WARDENS, abandons, contest, two_votes};
 use crate::voting::{LOOKS, WRITES_AND_LOOKS, hurried, missed};
@@ -124,6 +127,17 @@ fn tell_misses(rt: &impl Abort, alloc: Global, way: Way) -> Result<(), Fail> {
         WRITES_AND_ADDS,
         &[followed()],
         b"none 1.1 open\nnone 2.1 open\nended spent events 10\n",
+    )?;
+    tell(
+        rt,
+        alloc,
+        way,
+        WRITES_AND_BRANCHES,
+        &[branches()],
+        b"commit 10.1 txn 1.1 try 1 exec 0 end done
+commit 20.2 txn 2.1 try 1 exec 1 end done\nread x[1] 1\nread z[1] 0\nread z[2] 0\nout 1
+commit 30.3 txn 3.1 try 1 exec 1 end done\nread y[1] 0\nout 0
+value x[1] 1\nvalue y[2] 9\nended spent events 41\n",
     )?;
     tell(
         rt,

@@ -1,6 +1,6 @@
 //! Envelopes and menus as lines.
 //!
-//! A version is told as `10.1`, an execution as `10.1/0`, and a write of it as `10.1/0/1`. Tables 0 and 1 are x and y.
+//! A version is told as `10.1`, an execution as `10.1/0`, and a write of it as `10.1/0/1`. Tables 0 to 2 are x, y and z.
 
 use morty_base::{Exec, Key, NoMemory, Version, Wid};
 use msg::{BaseEntry, Body, Content, Envelope, Kept, Read, Write};
@@ -28,6 +28,7 @@ fn table(key: Key) -> &'static str {
     match key.table {
         0 => "x",
         1 => "y",
+        2 => "z",
         _ => "other",
     }
 }
