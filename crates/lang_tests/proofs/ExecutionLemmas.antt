@@ -19,6 +19,7 @@ only_code codes a b is there = let h : Some a ≡ Some b = subst (λ cs. slice_g
 -- the segment of the last job is taken
 pub stands_again : (code ran : Flat) (l l' : Log) (at from : JobAt) (seg : Seg) → IsPending code l at → ran ≡ code → from ≡ at → IsJobRun ran from seg →
     ((c : Flat) (p : Program) → StandsFor c p l → IsLastRun c p l seg → StandsFor c p l') → l'.broken ≡ false → Stands code l'
+unfolding Stands
 stands_again code ran l l' at from seg pending same begun run taken whole =
     let s = pending.stands in
     let run' : IsJobRun code at seg = subst (λ c. IsJobRun c at seg) same (subst (λ a. IsJobRun ran a seg) begun run) in
@@ -38,6 +39,7 @@ pending_first code p l flat fresh stands = record {
 
 pub pending_next : (code : Flat) (l l' : Log) (at : JobAt) → Stands code l → ((c : Flat) (p : Program) → StandsFor c p l → StandsFor c p l') →
     ((c : Flat) (p : Program) → StandsFor c p l → IsLastJob c p l' at) → l'.next ≡ None → l'.broken ≡ false → IsPending code l' at
+unfolding Stands
 pending_next code l l' at s stands last next whole = record {
   stands = record { program = s.program; flat = s.flat; log = stands code s.program s.log; whole = whole };
   last = last code s.program s.log;
