@@ -1,2 +1,2 @@
-pub mod ProgramLemmas
+mod ReadLemmas
 mod ExecutionLemmas

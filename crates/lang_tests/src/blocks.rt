@@ -1,15 +1,22 @@
+ghost use Rattle.std.specs.Prelude.{IfOk};
+ghost use Rattle.txn_parse.specs.Tree.{commands};
+ghost use Rattle.txn_parse.specs.Binding.{IsParsed};
+
 use std::alloc::{AllocError, Global};
 use std::process::Abort;
 use std::test::Fail;
 use txn_lang::BinOp;
 use txn_parse::{RawExpr, RawProg, RawStmt, fault_laws, grammar_laws, parse_prog};
-use txn_text::{FaultKind, TextFault, Token, token_text, tokens};
+use txn_text::{FaultKind, TextFault, is_text, token_text, tokens};
 
 // The block that a text begins with, and the place of the token behind it.
-pub fn read(alloc: Global, rt: &impl Abort, text: &[u8]) -> Result<(RawProg, usize), TextFault> {
+pub fn read(alloc: Global, rt: &impl Abort, text: &[u8]) -> Result<(RawProg, usize), TextFault>
+    ensures { IfOk result (λ x. IsParsed text.now (commands x.0.body)) }
+{
     assert!(rt; text.len() < 4000);
     let toks = tokens(alloc, text)?;
-    parse_prog(alloc, text, toks.as_slice(), 0)
+    let (prog, next) = parse_prog(alloc, text, toks.as_slice(), 0)?;
+    Ok((prog, next))
 }
 
 fn assert_fault(rt: &impl Abort, alloc: Global, text: &[u8], line: u32, kind: FaultKind) {
@@ -21,15 +28,14 @@ fn assert_fault(rt: &impl Abort, alloc: Global, text: &[u8], line: u32, kind: Fa
 
 // A word for a statement and its parts.
 fn shape(text: &[u8], stmt: &RawStmt) -> &'static str {
-    let is = |token: Token, word: &[u8]| token_text(text, token) == word;
     match stmt {
-        RawStmt::Let(a, RawExpr::Num(_)) if is(*a, b"a") => "let",
-        RawStmt::Read(_, x, RawExpr::Local(_)) if is(*x, b"x") => "read",
+        RawStmt::Let(a, RawExpr::Num(_)) if is_text(text, *a, b"a") => "let",
+        RawStmt::Read(_, x, RawExpr::Local(_)) if is_text(text, *x, b"x") => "read",
         RawStmt::Write(_, RawExpr::Num(_), RawExpr::Bin(BinOp::Add, _, _)) => "write",
         RawStmt::Print(RawExpr::Local(_)) => "print",
         RawStmt::If(_, a, b) if a.stmts.len() == 1 && b.stmts.is_empty() => "if",
         RawStmt::If(_, a, b) if a.stmts.len() == 1 && b.stmts.len() == 1 => "if else",
-        RawStmt::Repeat(n, _) if is(*n, b"3") => "repeat",
+        RawStmt::Repeat(n, _) if is_text(text, *n, b"3") => "repeat",
         RawStmt::Abort => "abort",
         _ => "other",
     }
@@ -54,7 +60,10 @@ fn each_statement_is_read(rt: HostRuntime) -> Result<(), Fail> {
     Ok(())
 }
 
-const FAULTS: [(&[u8], u32, FaultKind); 12] = [
+// A text with the line and the kind of its fault.
+type Row = (&'static [u8], u32, FaultKind);
+
+static FAULTS: [Row; 12] = [
     (b"{ read x[1] }", 1, FaultKind::Syntax),
     (b"{ print a < b\n< c }", 2, FaultKind::Syntax),
     (b"{ }", 1, FaultKind::Syntax),
@@ -68,6 +77,10 @@ const FAULTS: [(&[u8], u32, FaultKind); 12] = [
     (b"", 1, FaultKind::EndOfText),
     (b"{ if a { abort } else", 1, FaultKind::EndOfText),
 ];
+
+fn faults() -> &'static [Row] {
+    &FAULTS
+}
 
 // So many blocks in one another, the innermost on a line of its own.
 fn nested(alloc: Global, blocks: usize) -> Result<Vec<u8>, AllocError> {
@@ -97,8 +110,8 @@ fn summed(alloc: Global, terms: usize, sign: &[u8]) -> Result<Vec<u8>, AllocErro
 #[test]
 fn the_first_fault_is_named(rt: HostRuntime) -> Result<(), Fail> {
     let alloc = rt.alloc();
-    for (text, line, kind) in FAULTS {
-        assert_fault(&rt, alloc, text, line, kind);
+    for (text, line, kind) in faults() {
+        assert_fault(&rt, alloc, text, *line, *kind);
     }
     read(alloc, &rt, nested(alloc, 32)?.as_slice())?;
     read(alloc, &rt, summed(alloc, 32, b"-")?.as_slice())?;

@@ -1,5 +1,5 @@
 use crate::execution::begin;
-use crate::programs::five;
+use crate::programs::{FIVE, program};
 use continuation::{Done, Job, JobAt};
 use std::test::Fail;
 use std::thread;
@@ -14,7 +14,7 @@ fn read_there(rt: &impl Threads, job: Job, done: Done) -> (u64, u32) {
 #[test]
 fn jobs_and_what_is_done_cross_threads(rt: HostRuntime) -> Result<(), Fail> {
     let alloc = rt.alloc();
-    let prog = five(alloc)?;
+    let prog = program(alloc, &rt, FIVE)?;
     let first = begin(alloc, &prog)?;
     let job = Job {
         client: 1,

@@ -2,11 +2,11 @@ ghost use Rattle.std.specs.Prelude.{IfOk};
 ghost use Rattle.lang_tests.specs.Execution.{Stands};
 
 use crate::execution::{Execution, answer, begin, rewind};
-use crate::programs::{five, pay};
-use continuation::{JobAt, Next, Seg};
+use crate::programs::{FIVE, PAY, program};
+use continuation::{JobAt, Known, Next, Seg};
 use exec_log::ExecLog;
-use morty_base::{Ending, Version, Wid};
-use msg::{Content, Write};
+use morty_base::{Ending, Key, Version, Wid};
+use msg::{Read, Write};
 use std::alloc::Global;
 use std::process::Abort;
 use std::test::Fail;
@@ -65,23 +65,23 @@ fn answer_all(
     }
 }
 
-// The places and values of what a job knows of x.
-fn assert_known(rt: &impl Abort, at: &JobAt, want: &[(i64, i64)]) {
+fn x(index: i64) -> Key {
+    Key { table: 0, index }
+}
+
+fn assert_known(rt: &impl Abort, at: &JobAt, want: &[Known]) {
     match at {
         JobAt::Start => panic!(rt; "it begins at the start"),
-        JobAt::From { known, .. } => {
-            assert_eq!(rt; known.len(), want.len());
-            for (entry, row) in known.as_slice().iter().zip(want) {
-                assert_eq!(rt; (entry.key.index, entry.value), *row);
-            }
-        }
+        JobAt::From { known, .. } => assert_eq!(rt; known.as_slice(), want),
     }
 }
 
-fn assert_reads(rt: &impl Abort, content: &Content, want: &[(i64, i64, Wid)]) {
-    assert_eq!(rt; content.reads.len(), want.len());
-    for (read, row) in content.reads.as_slice().iter().zip(want) {
-        assert_eq!(rt; (read.key.index, read.value, read.wid), *row);
+// A read of x.
+fn read(index: i64, value: i64, wid: Wid) -> Read {
+    Read {
+        key: x(index),
+        wid,
+        value,
     }
 }
 
@@ -97,19 +97,11 @@ const LATER_ANSWERS: [(i64, Gave); 2] = [(4, (Some(5), 3, &[])), (5, (None, 3, &
 
 const GIVES_UP: [(i64, Gave); 1] = [(4, (None, 3, &[]))];
 
-const READS: [(i64, i64, Wid); 5] = [
-    (1, 1, OTHER),
-    (2, 2, FIRST),
-    (3, 30, PUT),
-    (4, 4, FIRST),
-    (5, 5, FIRST),
-];
-
 // Five reads on these answers.
 fn sum_first(rt: &impl Abort, alloc: Global) -> Result<Execution, Fail>
     ensures { IfOk result (λ x. Stands x.code x.log) }
 {
-    let prog = five(alloc)?;
+    let prog = program(alloc, rt, FIVE)?;
     let first = begin(alloc, &prog)?;
     assert_gave(rt, first.last.seg(), (Some(1), 4, &[]));
     answer_all(rt, alloc, first, &FIRST_ANSWERS)
@@ -121,7 +113,17 @@ fn sum_again(rt: &impl Abort, alloc: Global, ended: Execution) -> Result<Executi
     ensures { IfOk result (λ x. Stands x.code x.log) }
 {
     let again = rewind(alloc, ended, 2, PUT, 30)?;
-    assert_known(rt, &again.last.job().at, &[(1, 1), (2, 2)]);
+    let known = [
+        Known {
+            key: x(1),
+            value: 1,
+        },
+        Known {
+            key: x(2),
+            value: 2,
+        },
+    ];
+    assert_known(rt, &again.last.job().at, &known);
     assert_gave(rt, again.last.seg(), (Some(4), 3, &[]));
     answer_all(rt, alloc, again, &LATER_ANSWERS)
 }
@@ -138,12 +140,12 @@ fn assert_ended(
     rt: &impl Abort,
     alloc: Global,
     log: &ExecLog,
-    reads: &[(i64, i64, Wid)],
+    reads: &[Read],
     out: &[i64],
 ) -> Result<Ending, Fail> {
     log.ending().ok_or("it has not ended")?;
     let content = log.content(alloc)?;
-    assert_reads(rt, &content, reads);
+    assert_eq!(rt; content.reads.as_slice(), reads);
     assert_eq!(rt; content.writes.len(), 0);
     assert_eq!(rt; content.out.as_slice(), out);
     Ok(content.ending)
@@ -155,25 +157,24 @@ fn a_read_is_answered_anew(rt: HostRuntime) -> Result<(), Fail> {
     let first = sum_first(&rt, alloc)?;
     let mut ended = sum_again(&rt, alloc, first)?;
     relabel(&mut ended);
-    let ending = assert_ended(&rt, alloc, &ended.log, &READS, &[42])?;
+    let reads = [
+        read(1, 1, OTHER),
+        read(2, 2, FIRST),
+        read(3, 30, PUT),
+        read(4, 4, FIRST),
+        read(5, 5, FIRST),
+    ];
+    let ending = assert_ended(&rt, alloc, &ended.log, &reads, &[42])?;
     assert_eq!(rt; ending, Ending::Done);
     Ok(())
 }
 
 // A payment from too low an amount.
 fn give_up(rt: &impl Abort, alloc: Global) -> Result<Execution, Fail> {
-    let prog = pay(alloc)?;
+    let prog = program(alloc, rt, PAY)?;
     let first = begin(alloc, &prog)?;
     assert_gave(rt, first.last.seg(), (Some(1), 1, &[]));
     answer_all(rt, alloc, first, &GIVES_UP)
-}
-
-fn assert_one_write(rt: &impl Abort, writes: &[Write], want: (i64, i64)) {
-    match writes.first() {
-        Some(write) => assert_eq!(rt; (write.key.index, write.value), want),
-        None => panic!(rt; "it made no write"),
-    }
-    assert_eq!(rt; writes.len(), 1);
 }
 
 // It makes one write, and keeps none.
@@ -181,8 +182,12 @@ fn assert_one_write(rt: &impl Abort, writes: &[Write], want: (i64, i64)) {
 fn an_abort_keeps_no_writes(rt: HostRuntime) -> Result<(), Fail> {
     let alloc = rt.alloc();
     let ended = give_up(&rt, alloc)?;
-    assert_one_write(&rt, ended.log.writes(), (2, 1));
-    let ending = assert_ended(&rt, alloc, &ended.log, &[(1, 4, FIRST)], &[])?;
+    let write = Write {
+        key: x(2),
+        value: 1,
+    };
+    assert_eq!(rt; ended.log.writes(), [write].as_slice());
+    let ending = assert_ended(&rt, alloc, &ended.log, &[read(1, 4, FIRST)], &[])?;
     assert_eq!(rt; ending, Ending::Abort);
     Ok(())
 }

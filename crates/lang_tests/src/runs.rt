@@ -1,6 +1,6 @@
-use crate::programs::{five, pay, twice};
+use crate::programs::{FIVE, PAY, TWICE, program};
 use morty_base::{Ending, Key, NoMemory};
-use serial_runs::{Entry, Map, Stop, run_on_answers, run_on_map};
+use serial_runs::{Entry, Map, SerialRun, Stop, run_on_answers, run_on_map};
 use std::alloc::Global;
 use std::process::Abort;
 use std::test::Fail;
@@ -20,22 +20,32 @@ fn cells(alloc: Global, values: &[i64]) -> Result<Map, NoMemory> {
     Ok(cells)
 }
 
-// The places and values of these entries of x.
-fn assert_entries(rt: &impl Abort, entries: &[Entry], wanted: &[(i64, i64)]) {
-    assert_eq!(rt; entries.len(), wanted.len());
-    for (entry, row) in entries.iter().zip(wanted) {
-        assert!(rt; entry.key == x(row.0));
-        assert_eq!(rt; entry.value, row.1);
+// An entry of x.
+fn entry(index: i64, value: i64) -> Entry {
+    Entry {
+        key: x(index),
+        value,
     }
+}
+
+// The run on a map of the program that a text says, and the map after it.
+fn ran(alloc: Global, rt: &impl Abort, text: &[u8], cells: Map) -> Result<(SerialRun, Map), Fail> {
+    let prog = program(alloc, rt, text)?;
+    Ok(run_on_map(alloc, &prog, cells)?)
 }
 
 #[test]
 fn sums_five_cells(rt: HostRuntime) -> Result<(), Fail> {
     let alloc = rt.alloc();
-    let prog = five(alloc)?;
-    let (run, _) = run_on_map(alloc, &prog, cells(alloc, &[1, 2, 30, 4, 5])?)?;
-    let reads = [(1, 1), (2, 2), (3, 30), (4, 4), (5, 5)];
-    assert_entries(&rt, run.did.reads.as_slice(), &reads);
+    let (run, _) = ran(alloc, &rt, FIVE, cells(alloc, &[1, 2, 30, 4, 5])?)?;
+    let reads = [
+        entry(1, 1),
+        entry(2, 2),
+        entry(3, 30),
+        entry(4, 4),
+        entry(5, 5),
+    ];
+    assert_eq!(rt; run.did.reads.as_slice(), reads.as_slice());
     assert_eq!(rt; run.did.out.as_slice(), [42].as_slice());
     assert_eq!(rt; run.did.begun, 19);
     assert_eq!(rt; run.ending, Ending::Done);
@@ -45,10 +55,9 @@ fn sums_five_cells(rt: HostRuntime) -> Result<(), Fail> {
 #[test]
 fn gives_up_on_a_low_amount(rt: HostRuntime) -> Result<(), Fail> {
     let alloc = rt.alloc();
-    let prog = pay(alloc)?;
-    let (run, cells) = run_on_map(alloc, &prog, cells(alloc, &[4])?)?;
-    assert_entries(&rt, run.did.reads.as_slice(), &[(1, 4)]);
-    assert_entries(&rt, run.did.writes.as_slice(), &[(2, 1)]);
+    let (run, cells) = ran(alloc, &rt, PAY, cells(alloc, &[4])?)?;
+    assert_eq!(rt; run.did.reads.as_slice(), [entry(1, 4)].as_slice());
+    assert_eq!(rt; run.did.writes.as_slice(), [entry(2, 1)].as_slice());
     assert_eq!(rt; run.ending, Ending::Abort);
     assert_eq!(rt; cells.get(x(1)), 4);
     assert_eq!(rt; cells.get(x(2)), 0);
@@ -58,11 +67,11 @@ fn gives_up_on_a_low_amount(rt: HostRuntime) -> Result<(), Fail> {
 #[test]
 fn asks_for_a_key_once(rt: HostRuntime) -> Result<(), Fail> {
     let alloc = rt.alloc();
-    let prog = twice(alloc)?;
+    let prog = program(alloc, &rt, TWICE)?;
     let asked = run_on_answers(alloc, &prog, &[])?;
     assert_eq!(rt; asked.stop, Stop::Asks(x(1)));
     let told = run_on_answers(alloc, &prog, &[7, 8])?;
-    assert_entries(&rt, told.did.reads.as_slice(), &[(1, 7)]);
+    assert_eq!(rt; told.did.reads.as_slice(), [entry(1, 7)].as_slice());
     assert_eq!(rt; told.did.out.as_slice(), [7].as_slice());
     assert_eq!(rt; told.stop, Stop::Ends(Ending::Done));
     Ok(())
@@ -71,11 +80,8 @@ fn asks_for_a_key_once(rt: HostRuntime) -> Result<(), Fail> {
 #[test]
 fn runs_one_after_another(rt: HostRuntime) -> Result<(), Fail> {
     let alloc = rt.alloc();
-    let first = pay(alloc)?;
-    let second = twice(alloc)?;
-    let cells = cells(alloc, &[30])?;
-    let (_, cells) = run_on_map(alloc, &first, cells)?;
-    let (run, cells) = run_on_map(alloc, &second, cells)?;
+    let (_, cells) = ran(alloc, &rt, PAY, cells(alloc, &[30])?)?;
+    let (run, cells) = ran(alloc, &rt, TWICE, cells)?;
     assert_eq!(rt; cells.get(x(1)), 20);
     assert_eq!(rt; run.did.out.as_slice(), [20].as_slice());
     Ok(())

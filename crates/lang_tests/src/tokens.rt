@@ -10,7 +10,7 @@ const NAME: &[u8] = b"abcdefghijklmnopqrstuvwxyz012345";
 
 const ZEROS: &[u8] = b"00000000000000000000009223372036854775807";
 
-const ROWS: [Row; 6] = [
+static ROWS: [Row; 6] = [
     (b"", &[]),
     (b" \t\r\n# only a comment, \xff", &[]),
     (
@@ -61,13 +61,17 @@ const ROWS: [Row; 6] = [
     (ZEROS, &[(TokenKind::Number, ZEROS, 1)]),
 ];
 
+fn rows() -> &'static [Row] {
+    &ROWS
+}
+
 #[test]
 fn each_kind_is_read(rt: HostRuntime) -> Result<(), Fail> {
-    for (text, rows) in ROWS {
+    for (text, rows) in rows() {
         assert!(rt; text.len() < 1000);
         let found = tokens(rt.alloc(), text)?;
         assert_eq!(rt; found.len(), rows.len());
-        for (token, row) in found.as_slice().iter().zip(rows) {
+        for (token, row) in found.as_slice().iter().zip(*rows) {
             assert_eq!(rt; token.kind, row.0);
             assert!(rt; is_text(text, *token, row.1));
             assert_eq!(rt; token.line, row.2);
@@ -77,7 +81,7 @@ fn each_kind_is_read(rt: HostRuntime) -> Result<(), Fail> {
 }
 
 // A text with the line and the kind of its first bad token.
-const FAULTS: [(&[u8], u32, FaultKind); 6] = [
+static FAULTS: [(&[u8], u32, FaultKind); 6] = [
     (
         b"\nabcdefghijklmnopqrstuvwxyz0123456",
         2,
@@ -90,9 +94,14 @@ const FAULTS: [(&[u8], u32, FaultKind); 6] = [
     (b"\x0b", 1, FaultKind::Byte),
 ];
 
+fn faults() -> &'static [(&'static [u8], u32, FaultKind)] {
+    &FAULTS
+}
+
 #[test]
 fn the_first_bad_token_is_named(rt: HostRuntime) {
-    for (text, line, kind) in FAULTS {
+    for row in faults() {
+        let (text, line, kind) = *row;
         assert!(rt; text.len() < 1000);
         match tokens(rt.alloc(), text) {
             Ok(_) => panic!(rt; "tokens were read"),

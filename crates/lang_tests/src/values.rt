@@ -19,7 +19,7 @@ const ZERO: Result<i64, EvalFault> = Err(EvalFault::ZeroDivisor);
 // An operator between two numbers, and what it gives.
 type Row = (BinOp, i64, i64, Result<i64, EvalFault>);
 
-const ROWS: [Row; 25] = [
+static ROWS: [Row; 25] = [
     (BinOp::Add, MOST, 0, Ok(MOST)),
     (BinOp::Add, MOST, 1, OVER),
     (BinOp::Sub, LEAST, 0, Ok(LEAST)),
@@ -47,6 +47,10 @@ const ROWS: [Row; 25] = [
     (BinOp::Or, 0, 0, Ok(0)),
 ];
 
+fn rows() -> &'static [Row] {
+    &ROWS
+}
+
 // `x op (1 / 0)`, where x is the first local; or `x op y` with the second.
 fn of_locals(alloc: Global, op: BinOp, faulty: bool) -> Result<Expr, NoMemory>
     ensures { IfOk result (λ e. UsesBelow (term e) 2) }
@@ -64,7 +68,8 @@ fn of_locals(alloc: Global, op: BinOp, faulty: bool) -> Result<Expr, NoMemory>
 
 #[test]
 fn operators_give_their_values(rt: HostRuntime) -> Result<(), Fail> {
-    for (op, x, y, want) in ROWS {
+    for row in rows() {
+        let (op, x, y, want) = *row;
         let e = of_locals(rt.alloc(), op, false)?;
         assert_eq!(rt; eval(&e, &[x, y]), want, "{op:?} of {x} and {y}");
     }
