@@ -1,0 +1,1 @@
+"""Reading, replaying and drawing the traces of `morty trace`."""
