@@ -129,7 +129,8 @@ def head(width: int, height: int) -> str:
         for kind, colour in COLOURS.items()
     )
     box = f'width="{width}" height="{height}" viewBox="0 0 {width} {height}"'
-    return f'<svg xmlns="http://www.w3.org/2000/svg" {box}>\n<style>{STYLE}</style>\n<defs>\n{points}</defs>\n<rect width="{width}" height="{height}" fill="#fff"/>'
+    ground = f'<rect width="{width}" height="{height}" fill="#fff"/>'
+    return f'<svg xmlns="http://www.w3.org/2000/svg" {box}>\n<style>{STYLE}</style>\n<defs>\n{points}</defs>\n{ground}'
 
 
 def short(envelope: Envelope) -> str:
