@@ -1,6 +1,5 @@
-//! Tests over several crates, by their public calls alone: the top call over memory (scripts that are run,
-//! checked and generated), and the texts of rows. Nothing
-//! stands on this crate.
+//! Tests over several crates, by their public calls alone: the top call over memory (scripts that are run, traced, checked
+//! and generated, with the links of the program and with others), and the texts of rows. Nothing stands on this crate.
 #![tactic(auto)]
 
 #[cfg(test)]
@@ -10,6 +9,16 @@ mod fixture;
 #[cfg(test)]
 mod generated;
 #[cfg(test)]
+mod linked;
+#[cfg(test)]
+mod odd_links;
+#[cfg(test)]
+mod runs;
+#[cfg(test)]
+mod serials;
+#[cfg(test)]
 mod tests;
 #[cfg(test)]
 mod texts;
+#[cfg(test)]
+mod traced;

@@ -1,4 +1,4 @@
-use crate::fixture::{BAD_COMMAND, NOT_BUILT, Outside, REPORT, SCRIPT, SOUND, call};
+use crate::fixture::{BAD_COMMAND, Outside, REPORT, SCRIPT, SOUND, call};
 use morty_base::{List, NodeId};
 use msg::{Event, Pick};
 use std::test::Fail;
@@ -27,6 +27,7 @@ fn one_transaction_runs_in_nine_events(rt: HostRuntime) -> Result<(), Fail> {
         Event::Picked(replica, Pick::Idle),
     ];
     assert_eq!(rt; answer.journal.as_slice(), events.as_slice());
+    assert_eq!(rt; answer.links, 2);
     Ok(())
 }
 
@@ -59,7 +60,7 @@ const REPORTS: [(&[u8], &[u8]); 6] = [
 ];
 
 #[test]
-fn scripts_of_the_first_form_are_run(rt: HostRuntime) -> Result<(), Fail> {
+fn scripts_of_one_transaction_are_run(rt: HostRuntime) -> Result<(), Fail> {
     for (text, report) in REPORTS {
         let answer = call(rt.alloc(), &[b"run".as_slice()], text, SOUND)?;
         assert_eq!(rt; answer.status, 0);
@@ -68,25 +69,42 @@ fn scripts_of_the_first_form_are_run(rt: HostRuntime) -> Result<(), Fail> {
     Ok(())
 }
 
-/// Texts that are no scripts of the first form: none at all, a number past the greatest, a start past the latest, a
-/// name of 33 bytes, a reserved word as a name, another key, another name, and more text behind the end.
-const REFUSED: [&[u8]; 8] = [
-    b"",
-    b"morty 1 replicas 1 table x first x[1] 4 program inc { read a x[1]; write x[1] a + 9223372036854775808; print a } client 1 { inc at 10 } end",
-    b"morty 1 replicas 1 table x first x[1] 4 program inc { read a x[1]; write x[1] a + 1; print a } client 1 { inc at 1000000000001 } end",
-    b"morty 1 replicas 1 table abcdefghijklmnopqrstuvwxyz_012345 first abcdefghijklmnopqrstuvwxyz_012345[1] 4 program inc { read a abcdefghijklmnopqrstuvwxyz_012345[1]; write abcdefghijklmnopqrstuvwxyz_012345[1] a + 1; print a } client 1 { inc at 10 } end",
-    b"morty 1 replicas 1 table go first go[1] 4 program inc { read a go[1]; write go[1] a + 1; print a } client 1 { inc at 10 } end",
-    b"morty 1 replicas 1 table x first x[1] 4 program inc { read a x[1]; write x[2] a + 1; print a } client 1 { inc at 10 } end",
-    b"morty 1 replicas 1 table x first x[1] 4 program inc { read a x[1]; write x[1] a + 1; print b } client 1 { inc at 10 } end",
-    b"morty 1 replicas 1 table x first x[1] 4 program inc { read a x[1]; write x[1] a + 1; print a } client 1 { inc at 10 } end end",
+/// Texts that are no scripts, and the kind of their fault in line 1: none at all, a number past the greatest, a start past
+/// the latest, a name of 33 bytes, a reserved word as a name, a name that no one gave a value, and more text behind the end.
+const REFUSED: [(&[u8], &[u8]); 7] = [
+    (b"", b"morty: script line 1: end of text\n"),
+    (
+        b"morty 1 replicas 1 table x first x[1] 4 program inc { read a x[1]; write x[1] a + 9223372036854775808; print a } client 1 { inc at 10 } end",
+        b"morty: script line 1: number\n",
+    ),
+    (
+        b"morty 1 replicas 1 table x first x[1] 4 program inc { read a x[1]; write x[1] a + 1; print a } client 1 { inc at 1000000000001 } end",
+        b"morty: script line 1: at range\n",
+    ),
+    (
+        b"morty 1 replicas 1 table abcdefghijklmnopqrstuvwxyz_012345 first abcdefghijklmnopqrstuvwxyz_012345[1] 4 program inc { read a abcdefghijklmnopqrstuvwxyz_012345[1]; write abcdefghijklmnopqrstuvwxyz_012345[1] a + 1; print a } client 1 { inc at 10 } end",
+        b"morty: script line 1: long name\n",
+    ),
+    (
+        b"morty 1 replicas 1 table go first go[1] 4 program inc { read a go[1]; write go[1] a + 1; print a } client 1 { inc at 10 } end",
+        b"morty: script line 1: syntax\n",
+    ),
+    (
+        b"morty 1 replicas 1 table x first x[1] 4 program inc { read a x[1]; write x[1] a + 1; print b } client 1 { inc at 10 } end",
+        b"morty: script line 1: unknown local\n",
+    ),
+    (
+        b"morty 1 replicas 1 table x first x[1] 4 program inc { read a x[1]; write x[1] a + 1; print a } client 1 { inc at 10 } end end",
+        b"morty: script line 1: syntax\n",
+    ),
 ];
 
 #[test]
 fn other_texts_are_refused(rt: HostRuntime) -> Result<(), Fail> {
-    for text in REFUSED {
+    for (text, line) in REFUSED {
         let answer = call(rt.alloc(), &[b"run".as_slice()], text, SOUND)?;
         assert_eq!(rt; answer.status, 3);
-        assert_eq!(rt; answer.taken.as_slice(), NOT_BUILT);
+        assert_eq!(rt; answer.taken.as_slice(), line);
         assert!(rt; answer.journal.is_empty());
     }
     Ok(())
@@ -97,7 +115,7 @@ fn no_front_of_the_script_is_one(rt: HostRuntime) -> Result<(), Fail> {
     for len in 0..SCRIPT.len() {
         let answer = call(rt.alloc(), &[b"run".as_slice()], &SCRIPT[..len], SOUND)?;
         assert_eq!(rt; answer.status, 3);
-        assert_eq!(rt; answer.taken.as_slice(), NOT_BUILT);
+        assert!(rt; answer.journal.is_empty());
     }
     Ok(())
 }

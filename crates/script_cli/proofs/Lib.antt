@@ -1,4 +1,6 @@
-mod Answered
-mod Ran
-mod CheckLemmas
 pub mod WordsLemmas
+pub mod DifferLemmas
+pub mod AnswerLemmas
+pub mod Completeness
+pub mod EventNodes
+pub mod RunTexts

@@ -1,4 +1,5 @@
 pub mod Words
-pub mod Check
-pub mod TopCall
-pub mod Made
+pub mod Lines
+pub mod Due
+pub mod Answer
+pub mod Clauses

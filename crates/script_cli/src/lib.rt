@@ -1,11 +1,18 @@
-//! The program's top call: words and bytes in, a status and bytes out.
+//! The program's top call: words, bytes and links in; a status, the events and the links out, and bytes written.
+//!
+//! Read `specs/Words`, what the words ask for; `Lines`, what is written where nothing else is; `Due`, what a command is to
+//! write for a script, and for what the source had left; `Answer`, what a call then answers; and `Clauses`, what that says
+//! of each status. The code makes all that is to be written before it writes (`made`, over `texts` and `lines`); `top`
+//! alone writes.
 #![tactic(auto)]
 
-mod check;
+mod lines;
+mod made;
+mod output;
+mod texts;
 mod top;
 mod words;
 
-pub use check::{Checked, check_text};
-pub use first_form::one_script;
-pub use top::{Exit, run_here};
-pub use words::{Command, read_words};
+pub use output::Output;
+pub use top::{Answer, Exit, run_here};
+pub use words::{Command, Seeded, read_words};
