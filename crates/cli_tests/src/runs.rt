@@ -4,7 +4,7 @@ use std::test::Fail;
 /// A script, the status of its run, and the lines of the report.
 type Row = (&'static [u8], u8, &'static [&'static [u8]]);
 
-static RUNS: [Row; 15] = [
+static RUNS: [Row; 20] = [
     // Two more replicas make a fast commit of three votes.
     (
         b"morty 1 replicas 3 table x first x[1] 4 program inc { read a x[1]; write x[1] a + 1; print a } client 1 { inc at 10 } end",
@@ -183,6 +183,60 @@ static RUNS: [Row; 15] = [
         b"morty 1 replicas 1 turns 1 table x first x[1] 4 program inc { read a x[1]; write x[1] a + 1; print a } client 1 { inc at 10 } end",
         1,
         &[b"none 1.1 open", b"value x[1] 4", b"ended spent events 3"],
+    ),
+    // As many turns as the run's budget.
+    (
+        b"morty 1 replicas 1 turns 8 table x first x[1] 4 program inc { read a x[1]; write x[1] a + 1; print a } client 1 { inc at 10 } end",
+        0,
+        &[
+            b"commit 10.1 txn 1.1 try 1 exec 0 end done",
+            b"read x[1] 4",
+            b"out 4",
+            b"value x[1] 5",
+            b"ended quiet events 9",
+        ],
+    ),
+    // A warden truncates: its request, the answer and the Drop are three more events behind its pick.
+    (
+        b"morty 1 replicas 1 wardens 1 table x first x[1] 4 program inc { read a x[1]; write x[1] a + 1; print a } client 1 { inc at 10 } at 9 warden 1 truncate 20.0 end",
+        0,
+        &[
+            b"commit 10.1 txn 1.1 try 1 exec 0 end done",
+            b"read x[1] 4",
+            b"out 4",
+            b"value x[1] 5",
+            b"ended quiet events 13",
+        ],
+    ),
+    // The same version is not truncated twice.
+    (
+        b"morty 1 replicas 1 wardens 1 table x first x[1] 4 program inc { read a x[1]; write x[1] a + 1; print a } client 1 { inc at 10 } at 9 warden 1 truncate 20.0 at 13 warden 1 truncate 20.0 end",
+        0,
+        &[
+            b"commit 10.1 txn 1.1 try 1 exec 0 end done",
+            b"read x[1] 4",
+            b"out 4",
+            b"value x[1] 5",
+            b"ended quiet events 13",
+        ],
+    ),
+    // Two votes to commit wait for the third replica's.
+    (
+        b"morty 1 replicas 3 table x first x[1] 4 program inc { read a x[1]; write x[1] a + 1; print a } client 1 { inc at 10 } net listed list replica 3 { wait 20000 } end",
+        0,
+        &[b"none 1.1 open", b"value x[1] 4", b"ended quiet events 13"],
+    ),
+    // A client in a hurry asks for acceptances instead.
+    (
+        b"morty 1 replicas 3 table x first x[1] 4 program inc { read a x[1]; write x[1] a + 1; print a } client 1 { inc at 10 } net listed list replica 3 { wait 20000 } list client 1 { next 5; hurry } end",
+        0,
+        &[
+            b"commit 10.1 txn 1.1 try 1 exec 0 end done",
+            b"read x[1] 4",
+            b"out 4",
+            b"value x[1] 5",
+            b"ended quiet events 20",
+        ],
     ),
     // A seeded net that neither delays nor repeats.
     (

@@ -136,3 +136,21 @@ fn a_large_run_is_serial(rt: HostRuntime) -> Result<(), Fail> {
     assert!(rt; is_serial(alloc, script.taken.as_slice(), run.taken.as_slice())?);
     Ok(())
 }
+
+// A client that aborts its attempts at a missed write commits the next try, a gap later.
+#[test]
+fn a_second_try_is_serial(rt: HostRuntime) -> Result<(), Fail> {
+    let alloc = rt.alloc();
+    let script: &[u8] =
+        b"morty 1 replicas 1 gap 20 policy abort table x first x[1] 4 program inc { read a x[1]; write x[1] a + 1; print a } client 1 { inc at 10 } client 2 { inc at 20 } end";
+    let run = call(alloc, &[b"run".as_slice()], script, SOUND)?;
+    assert_eq!(rt; run.status, 0);
+    let text = run.taken.as_slice();
+    assert!(rt;
+        text.starts_with(
+            b"commit 10.1 txn 1.1 try 1 exec 0 end done\nread x[1] 4\nout 4\ncommit 40.2 txn 2.1 try 2 exec 0 end done\nread x[1] 5\n"
+        )
+    );
+    assert!(rt; is_serial(alloc, script, text)?);
+    Ok(())
+}
