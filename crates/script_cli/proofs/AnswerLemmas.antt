@@ -1,5 +1,5 @@
 -- What an answer says of its status.
-use Rattle.std.proofs.Common.{◌≡◌, ℕ, ◌≤◌, ◌⊎◌, Bool, true, false, List, [], reverse, refl, sym, ap, ◌∙◌, subst, inl, inr, Option, None, Some, arith}
+use Rattle.std.proofs.Common.{◌≡◌, ℕ, ◌≤◌, ◌⊎◌, true, false, List, [], reverse, refl, sym, ap, ◌∙◌, subst, inl, inr, Option, None, Some, arith}
 use Rattle.std.specs.Prelude.{IfSome}
 use Rattle.msg.specs.declared.Event.{Event}
 use Rattle.morty_base.specs.declared.names.Ended.{Ended}
@@ -10,39 +10,12 @@ use Rattle.script.specs.declared.setup.Setup.{Setup}
 use Rattle.script.specs.Sayable.{IsSetup}
 use Rattle.script_runs.specs.Runs.{IsRunOf}
 use Rattle.script_cli.specs.declared.words.Command.{Command}
-use Rattle.script_cli.specs.declared.words.Command.TheVariants.{Run, Serial, Check, Trace, Gen, Big}
 use Rattle.script_cli.specs.Words.{command_of, reads, runs}
 use Rattle.script_cli.specs.Lines.{bad_command_line, read_failed, too_long}
-use Rattle.script_cli.specs.Due.{Due, unrun, AreLeft, IsTooLong, IsScriptText, IsGeneratedFor, status_of, text_of_run, IsUnnamed, IsRunDue, IsLinkDue, IsDueOf, Printed, Unnamed, Ran, Linkless, IsFaulty, Of_script, Of_fault, IsDue, Unread, Too_long, Read, Generated}
+use Rattle.script_cli.specs.Due.{Due, unrun, AreLeft, IsTooLong, status_of, text_of_run, IsUnnamed, IsRunDue, IsLinkDue, IsDueOf, Printed, Unnamed, Ran, Linkless, IsFaulty, Of_script, Of_fault, IsDue, Unread, Too_long, Read, Generated}
 use Rattle.script_cli.specs.Answer.{Given, Whole, Part, IsAnswered, Refused, Answered, Out_of_memory}
 use Rattle.script_cli.specs.Clauses.{IsScriptFor, IsRunTold, IsPrintedFor, IsBadCommand, No_command, No_transaction, IsRefused, Long, Faulty, IsLinkTold, IsCut, Line_cut, Due_cut}
-
--- the words are one command
-pub some_none : (o : Option Command) (c : Command) → o ≡ Some c → o ≡ None → ⊥
-some_none o c some none = let e : Some c ≡ None = sym some ∙ none in cc
-
-pub one_command : (o : Option Command) (c k : Command) → o ≡ Some c → o ≡ Some k → k ≡ c
-one_command o c k is also = let e : Some k ≡ Some c = sym also ∙ is in cc
-
-pub not_both : (b : Bool) → b ≡ true → b ≡ false → ⊥
-not_both b holds fails = let e : true ≡ false = sym holds ∙ fails in cc
-
--- the script of a command that reads, and of one that does not
-own_read : (c : Command) (left : Option (List ℕ)) (s : Setup) (bytes : List ℕ) → reads c ≡ true → AreLeft left bytes → IsScriptText bytes s → IsScriptFor c left s
-own_read Run left s bytes reading are says = (bytes, are, says)
-own_read (Serial asked) left s bytes reading are says = (bytes, are, says)
-own_read Check left s bytes reading are says = (bytes, are, says)
-own_read Trace left s bytes reading are says = (bytes, are, says)
-own_read (Gen seeded) left s bytes reading are says = absurd (not_both false reading refl)
-own_read (Big seeded) left s bytes reading are says = absurd (not_both false reading refl)
-
-own_generated : (c : Command) (left : Option (List ℕ)) (s : Setup) → IsGeneratedFor c s → IsScriptFor c left s
-own_generated Run left s is = absurd is
-own_generated (Serial asked) left s is = absurd is
-own_generated Check left s is = absurd is
-own_generated Trace left s is = absurd is
-own_generated (Gen seeded) left s is = is
-own_generated (Big seeded) left s is = is
+use Rattle.script_cli.proofs.CommandLemmas.{some_none, one_command, not_both, own_read, own_generated}
 
 pub status_few : (e : Ended) → status_of e ≤ 1
 status_few Quiet = omega arith

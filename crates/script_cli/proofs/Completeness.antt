@@ -14,7 +14,8 @@ use Rattle.script_cli.specs.Words.{command_of, reads, runs}
 use Rattle.script_cli.specs.Due.{AreLeft, IsTooLong, IsScriptText, IsDueOf, Printed, Unnamed, Ran, Linkless, IsDue}
 use Rattle.script_cli.specs.Answer.{Given, Whole, Part, IsAnswered, Refused, Answered, Out_of_memory}
 use Rattle.script_cli.specs.Clauses.{IsScriptFor, IsGoodInput, HasAll, IsStatus}
-use Rattle.script_cli.proofs.AnswerLemmas.{some_none, one_command, not_both, by_due, HasStatus, Fine, At_two, At_three, At_four, At_six, has_status, few_are, status_few}
+use Rattle.script_cli.proofs.CommandLemmas.{some_none, one_command, not_both}
+use Rattle.script_cli.proofs.AnswerLemmas.{by_due, HasStatus, Fine, At_two, At_three, At_four, At_six, has_status, few_are, status_few}
 
 -- the bytes that were read, of a command that was given a script
 record WereGood (bytes : List ℕ) : Type 0 where

@@ -1,3 +1,4 @@
+-- What is due of a run has its events, its end and its links.
 use Rattle.script_cli.proofs.made.of_run.Goals as goal
 
 pub returns : goal.returns

@@ -1,3 +1,4 @@
+-- A script that was run has what is due of its run.
 use Rattle.std.proofs.Common.{map, subst}
 use Rattle.hub.proofs.Results.{if_ok}
 use Rattle.script_runs.specs.Runs.{IsMadeOf}

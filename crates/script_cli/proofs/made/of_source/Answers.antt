@@ -1,3 +1,4 @@
+-- Bytes that were read whole have what is due for them.
 use Rattle.std.proofs.Common.{List, ℕ, map, subst}
 use Rattle.hub.proofs.Results.{if_ok}
 use Rattle.script_cli.specs.Due.{due_of, IsTextDue, Read}

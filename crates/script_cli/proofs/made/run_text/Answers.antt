@@ -1,3 +1,4 @@
+-- What a command writes of a run is of the world that its events make.
 use Rattle.std.proofs.Common.{reverse, sym, ap, ◌∙◌}
 use Rattle.std.proofs.lemmas.List.Elements.{All-same}
 use Rattle.msg.specs.Events.{node_of}

@@ -1,3 +1,4 @@
+-- The report is of the world that the events make.
 use Rattle.std.proofs.Common.{reverse, ap, ◌∙◌}
 use Rattle.hub.proofs.Results.{if_ok}
 use Rattle.report.specs.Text.{report_of}

@@ -1,3 +1,4 @@
+-- The trace has the script, the events and the mail of the world that they make.
 use Rattle.std.proofs.Common.{reverse, ap, ◌∙◌}
 use Rattle.hub.proofs.Results.{if_ok}
 use Rattle.run_trace.specs.Trace.{trace_bytes}

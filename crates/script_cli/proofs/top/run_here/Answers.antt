@@ -1,3 +1,4 @@
+-- The clauses by status follow from what was answered.
 use Rattle.std.proofs.Common.{length, ap}
 use Rattle.std.proofs.lemmas.List.{length-map}
 use Rattle.script_cli.proofs.AnswerLemmas.{ran, printed, bad_words, refused, linkless, cut}

@@ -3,7 +3,7 @@ use Rattle.std.proofs.Common.{sym, ◌∙◌, subst}
 use Rattle.serial_ref.specs.SerialItem.{DifferInVersion}
 use Rattle.script_cli.specs.Words.{items_said}
 use Rattle.script_cli.proofs.DifferLemmas.{serial_where, none_where}
-use Rattle.script_cli.proofs.AnswerLemmas.{not_both}
+use Rattle.script_cli.proofs.CommandLemmas.{not_both}
 use Rattle.script_cli.proofs.words.serial_of.Goals as goal
 
 pub returns-then-branch-clause-command : goal.returns-then-branch-clause-command
