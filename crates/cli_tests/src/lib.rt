@@ -15,6 +15,8 @@ mod odd_links;
 #[cfg(test)]
 mod runs;
 #[cfg(test)]
+mod scripts;
+#[cfg(test)]
 mod serials;
 #[cfg(test)]
 mod tests;
