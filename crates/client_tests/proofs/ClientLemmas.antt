@@ -1,5 +1,5 @@
 -- A client runs its one program from one call to the next.
-use Rattle.std.proofs.Common.{◌≡◌, ℕ, ◌≤◌, zero, suc, Bool, true, false, List, [], ◌∷◌, Some, refl, ap, sym, subst, ◌∙◌}
+use Rattle.std.proofs.Common.{◌≡◌, ℕ, ◌≤◌, zero, suc, Bool, true, false, List, [], ◌∷◌, map, Some, refl, ap, sym, subst, ◌∙◌}
 use Rattle.std.specs.Prelude.{IsTrue, slice_get}
 use Rattle.std.specs.Bool.{then_some}
 use Rattle.flat_code.specs.Operation.{Flat}
@@ -21,14 +21,14 @@ use Rattle.coordinator.specs.declared.memory.Stage.TheVariants as stage
 use Rattle.coordinator.specs.declared.memory.Memory.{Memory}
 use Rattle.coordinator.specs.declared.memory.Plan.{Plan}
 use Rattle.coordinator.specs.declared.coordinator.Coordinator.{Coordinator}
-use Rattle.coordinator.specs.Memory.{Given, HavePrograms, awaits, awaits_at, codes_of, pending_job, phase_of, rules_of}
+use Rattle.coordinator.specs.Memory.{Given, HavePrograms, NamePrograms, awaits, awaits_at, codes_of, pending_job, phase_of, rules_of}
 use Rattle.coordinator.specs.Coordinator.{Does, StandsFor}
 use Rattle.coordinator.proofs.JobLemmas.{pending_awaits, pending_says}
 use Rattle.client_tests.specs.Client.{Runs}
 
 -- a client of one program
 abbrev pub given_of : protocol.Rules → Loaded → Given
-given_of rules l = record { rules = rules; programs = l ∷ [] }
+given_of rules l = record { rules = rules; programs = l ∷ []; numbers = 0 ∷ [] }
 
 pub not_so : (b : Bool) → (IsTrue b → false ≡ true) → b ≡ false
 not_so true h = sym (h refl)
@@ -46,7 +46,7 @@ one_program l t first (suc i) u is = absurd (cc)
 
 -- a client that has begun nothing
 pub started : (code : Flat) (p : Program) (s : Coordinator) (plan : Plan) (t : Txn2) → IsCodeOf code p → plan.txns ≡ t ∷ [] → t.prog ≡ 0 →
-    ((g : Given) → g.rules ≡ rules_of g.programs plan → HavePrograms g.programs plan.txns → StandsFor g fresh_client s) → Runs code s
+    ((g : Given) → g.rules ≡ rules_of g.programs plan → NamePrograms g plan.txns → StandsFor g fresh_client s) → Runs code s
 started code p s plan t is one first stands =
     let l : Loaded = record { program = p; code = code; is_code = is } in
     record {
@@ -54,7 +54,10 @@ started code p s plan t is one first stands =
       runs = refl;
       rules = rules_of (l ∷ []) plan;
       state = fresh_client;
-      stands = stands (given_of (rules_of (l ∷ []) plan) l) refl (subst (HavePrograms (l ∷ [])) (sym one) (one_program l t first));
+      stands = stands (given_of (rules_of (l ∷ []) plan) l) refl (record {
+        there = subst (HavePrograms (l ∷ [])) (sym one) (one_program l t first);
+        numbers = ap (map (λ (x : Txn2). x.prog)) one ∙ ap (λ n. n ∷ []) first;
+      });
     }
 
 -- an attempt begins

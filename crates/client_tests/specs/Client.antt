@@ -13,4 +13,4 @@ pub record Runs (code : Flat) (s : Coordinator) : Type 0 where
   pub runs : loaded.code ≡ code
   pub rules : protocol.Rules
   pub state : ClientState
-  pub stands : StandsFor (record { rules = rules; programs = loaded ∷ [] }) state s
+  pub stands : StandsFor (record { rules = rules; programs = loaded ∷ []; numbers = 0 ∷ [] }) state s

@@ -1,4 +1,5 @@
 pub mod Moving
+pub mod Places
 pub mod Stopping
 pub mod Suffix
 pub mod Resuming

@@ -59,7 +59,7 @@ write_moves d w s = ap (λ l. from_parts l (d.printed ++ s.out) (d.ran + s.begun
 line_moves : (d : SoFar) (x : ℤ) (s : Run) → joined (run_so_far d) (after_line x s) ≡ joined (run_so_far (with_line d x)) s
 line_moves d x s = ap (λ l. from_parts (d.wrote ++ s.writes) l (d.ran + s.begun) s) (sym (append_assoc d.printed (x ∷ []) s.out))
 
-known_with : (known : List Entry) (d : SoFar) (w : Entry) → w ∷ known_now known d ≡ known_now known (with_write d w)
+pub known_with : (known : List Entry) (d : SoFar) (w : Entry) → w ∷ known_now known d ≡ known_now known (with_write d w)
 known_with known d w = ap (λ l. l ++ known) (sym (reverse-append d.wrote (w ∷ [])))
 
 -- whatever answers are left, the run of `a` is what was done and then the run of `rest`

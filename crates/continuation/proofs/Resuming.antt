@@ -57,16 +57,20 @@ module _
   asked : key ≡ q.key
   asked = one_key code f key q.key r.asks (subst (λ p. performed code p ≡ gives (Asks q.key) p) (sym r.place) s.at.awaits.asks)
 
+  from : g ≡ answered_at (fetched code (frame_of cont).pc) (frame_of cont) value
+  from = r.goes ∙ ap (λ p. answered_at (fetched code p.pc) p value) r.place
+
   does : Does code g (s.at.goes.next value)
-  does = subst (λ p. Does code p (s.at.goes.next value)) (sym (r.goes ∙ ap (λ p. answered_at (fetched code p.pc) p value) r.place)) (s.at.awaits.does value)
+  does = subst (λ p. Does code p (s.at.goes.next value)) (sym from) (s.at.awaits.does value)
 
   knows : KnowsAs seen (entry q.key value ∷ (replay_of q.program q.answers).known)
   knows =
       subst (λ es. KnowsAs es (entry q.key value ∷ (replay_of q.program q.answers).known)) (sym (r.sees ∙ ap (λ k. entry k value ∷ known) asked))
       (knows_answer known (replay_of q.program q.answers).known q.key value s.knows)
 
-  pub resumed : (seg : Seg) → ((a : Actions) (known : List Entry) → Does code g a → KnowsAs seen known → IsSegment code a known seg) →
+  pub resumed : (seg : Seg) → ((a : Actions) (known : List Entry) → Does code g a → KnowsAs seen known → IsSegment code g a known seg) →
       IsSuffix code q.program q.answers value seg
   resumed seg h =
-      is_suffix q.program q.answers q.key value s.at.goes code seg
-      (h (s.at.goes.next value) (entry q.key value ∷ (replay_of q.program q.answers).known) does knows)
+      let shown = entry q.key value ∷ (replay_of q.program q.answers).known in
+      is_suffix q.program q.answers q.key value s.at.goes code (frame_of cont) s.at.comes seg
+      (subst (λ f. IsSegment code f (s.at.goes.next value) shown seg) from (h (s.at.goes.next value) shown does knows))

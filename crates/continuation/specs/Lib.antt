@@ -1,3 +1,4 @@
+pub mod Reaching
 pub mod Place
 pub mod Segment
 pub mod Job

@@ -1,33 +1,42 @@
 -- What segments are: the first one of a program, and the one that follows an answer.
 use Rattle.std.specs.Prelude.{◌≡◌, ◌+◌, List, [], ◌∷◌, ◌++◌, Some, ℤ}
+use Rattle.morty_base.specs.declared.names.Key.{Key}
 use Rattle.txn_lang.specs.Keys.{Entry}
 use Rattle.txn_lang.specs.Actions.{Actions}
 use Rattle.txn_lang.specs.Program.{Program, replay_of}
 use Rattle.txn_lang.specs.Runs.{Run, run, next_answer}
 use Rattle.txn_lang.specs.Laws.{GoesOn}
+use Rattle.flat_code.specs.declared.frame.Frame.{Frame}
 use Rattle.flat_code.specs.Operation.{Flat}
 use Rattle.flat_code.specs.Does.{Awaits}
 use Rattle.continuation.specs.declared.segment.Next.{Next}
 use Rattle.continuation.specs.declared.segment.Next.TheVariants.{Asks, Ends}
 use Rattle.continuation.specs.declared.segment.Seg.{Seg}
+use Rattle.continuation.specs.Reaching.{ComesTo}
 use Rattle.continuation.specs.Place.{frame_of, StandsAt}
 
 -- the run of these actions alone, where these entries are known and no answer is left
 abbrev pub alone : Actions → List Entry → Run
 alone a known = run next_answer a known []
 
+-- that run asks for this key at this place, to which the code comes from where it began
+pub record AsksAlone (code : Flat) (start : Frame) (a : Actions) (known : List Entry) (k : Key) (f : Frame) : Type 0 where
+  pub asks : (alone a known).asks ≡ Some k
+  pub goes : GoesOn a known [] k
+  pub awaits : Awaits code f k goes.next
+  pub comes : ComesTo code start known [] k (alone a known).known f
+
 -- how that run stops
-abbrev pub StopsAlone : Flat → Actions → List Entry → Next → Type 0
-StopsAlone code a known (Asks k cont) =
-    ((alone a known).asks ≡ Some k) × ((goes : GoesOn a known [] k) × Awaits code (frame_of cont) k goes.next)
-StopsAlone code a known (Ends how) = (alone a known).ending ≡ Some how
+abbrev pub StopsAlone : Flat → Frame → Actions → List Entry → Next → Type 0
+StopsAlone code start a known (Asks k cont) = AsksAlone code start a known k (frame_of cont)
+StopsAlone code start a known (Ends how) = (alone a known).ending ≡ Some how
 
 -- what code did from a place at which it does these actions
-pub record IsSegment (code : Flat) (a : Actions) (known : List Entry) (seg : Seg) : Type 0 where
+pub record IsSegment (code : Flat) (start : Frame) (a : Actions) (known : List Entry) (seg : Seg) : Type 0 where
   pub wrote : (alone a known).writes ≡ seg.wrote
   pub printed : (alone a known).out ≡ seg.printed
   pub ran : (alone a known).begun ≡ seg.ran
-  pub next : StopsAlone code a known seg.next
+  pub next : StopsAlone code start a known seg.next
 
 -- how the replay on these answers stops
 abbrev pub StopsAs : Flat → Program → List ℤ → Next → Type 0

@@ -14,6 +14,7 @@ use Rattle.continuation.specs.declared.segment.Seg.{Seg}
 use Rattle.continuation.specs.declared.running.Running.{Running}
 use Rattle.continuation.specs.declared.running.Stop.{Stop}
 use Rattle.continuation.specs.declared.running.Stop.TheVariants.{Asks, Ends}
+use Rattle.continuation.specs.Reaching.{place_within}
 use Rattle.continuation.specs.Place.{cont_of}
 use Rattle.continuation.specs.Segment.{IsSegment}
 
@@ -43,8 +44,13 @@ pub record Underway (code : Flat) (i : ℕ) (f : Frame) (d : SoFar) (a : Actions
   pub same : (answers : List ℤ) →
       run next_answer a known answers ≡ joined (run_so_far d) (run next_answer rest (known_now known d) answers)
 
-abbrev pub IsUnderway : Flat → ℕ → Running → Actions → List Entry → Type 0
-IsUnderway code i r a known = Underway code i r.at (did r) a known
+-- and from where the segment began the code goes on as it does from this place
+pub record Reaches (code : Flat) (start : Frame) (i : ℕ) (f : Frame) (d : SoFar) (a : Actions) (known : List Entry) : Type 0 where
+  pub under : Underway code i f d a known
+  pub comes : (n : ℕ) (answers : List ℤ) → place_within code (n + i) start known answers ≡ place_within code n f (known_now known d) answers
+
+abbrev pub IsUnderway : Flat → Frame → ℕ → Running → Actions → List Entry → Type 0
+IsUnderway code start i r a known = Reaches code start i r.at (did r) a known
 
 abbrev pub next_of : Frame → Stop → Next
 next_of f (Asks k) = next.TheVariants.Asks k (cont_of f)
@@ -55,6 +61,6 @@ abbrev pub seg_of : Running → Stop → Seg
 seg_of r stop = record { next = next_of r.at stop; wrote = r.wrote; printed = r.printed; ran = r.ran }
 
 -- after one more operation the segment is under way, or it has stopped
-abbrev pub IsNext : Flat → ℕ → Running → Actions → List Entry → Option Stop → Type 0
-IsNext code i r a known None = IsUnderway code (i + 1) r a known
-IsNext code i r a known (Some stop) = IsSegment code a known (seg_of r stop)
+abbrev pub IsNext : Flat → Frame → ℕ → Running → Actions → List Entry → Option Stop → Type 0
+IsNext code start i r a known None = IsUnderway code start (i + 1) r a known
+IsNext code start i r a known (Some stop) = IsSegment code start a known (seg_of r stop)

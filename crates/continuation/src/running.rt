@@ -1,6 +1,7 @@
 ghost use Rattle.std.specs.Prelude.{ℕ, ◌≡◌, ◌+◌, ◌≤◌, ◌<◌, List, IfOk, OnOk};
 ghost use Rattle.txn_lang.specs.Keys.{Entry};
 ghost use Rattle.txn_lang.specs.Actions.{Actions};
+ghost use Rattle.flat_code.specs.declared.frame.Frame.{Frame as FrameValue};
 ghost use Rattle.flat_code.specs.Does.{Does, ticks};
 ghost use Rattle.continuation.specs.Place.{KnowsAs};
 ghost use Rattle.continuation.specs.Segment.{IsSegment, alone};
@@ -48,10 +49,10 @@ impl Running {
     ) -> Result<Option<Stop>, NoMemory>
         requires reached { (a : Actions) × Does code.now self.old.at a }
         requires few { self.old.ran < MOST_OPERATIONS }
-        ensures next { IfOk result (λ stop. (i : ℕ) (a : Actions) (known : List Entry) → KnowsAs seen.now known → IsUnderway code.now i self.old a known → IsNext code.now i self.new a known stop) }
+        ensures next { IfOk result (λ stop. (start : FrameValue) (i : ℕ) (a : Actions) (known : List Entry) → KnowsAs seen.now known → IsUnderway code.now start i self.old a known → IsNext code.now start i self.new a known stop) }
         ensures few { OnOk result (self.new.ran ≤ self.old.ran + 1) }
         ensures counted { OnOk result (steps.new + self.old.ran ≡ steps.old + self.new.ran) }
-        ensures at_most { (i : ℕ) (a : Actions) (known : List Entry) → IsUnderway code.now i self.old a known → steps.new + self.old.ran ≤ steps.old + (alone a known).begun }
+        ensures at_most { (start : FrameValue) (i : ℕ) (a : Actions) (known : List Entry) → IsUnderway code.now start i self.old a known → steps.new + self.old.ran ≤ steps.old + (alone a known).begun }
     {
         self.ran += ticks(code, &self.at);
         match step_op(code, &mut self.at, steps)? {
@@ -110,7 +111,7 @@ pub(crate) fn run_on<L: Ledger>(
     steps: &mut Steps<L>,
 ) -> Result<Seg, NoMemory>
     requires { (a : Actions) × Does code.now at a }
-    ensures segment { IfOk result (λ seg. (a : Actions) (known : List Entry) → Does code.now at a → KnowsAs seen.now known → IsSegment code.now a known seg) }
+    ensures segment { IfOk result (λ seg. (a : Actions) (known : List Entry) → Does code.now at a → KnowsAs seen.now known → IsSegment code.now at a known seg) }
     ensures counted { IfOk result (λ seg. steps.new ≡ steps.old + seg.ran) }
     ensures at_most { (a : Actions) (known : List Entry) → Does code.now at a → KnowsAs seen.now known → steps.new ≤ steps.old + (alone a known).begun }
 {

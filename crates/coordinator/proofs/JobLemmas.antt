@@ -40,12 +40,12 @@ begun_at stage.Between k pending e h = absurd (cc)
 begun_at (stage.Running given) k pending e h = h
 begun_at (stage.Prepared b) k pending e h = absurd (cc)
 
-pending_so : (x : Stage) (pending : Bool) → awaits_at x pending ≡ true → pending ≡ true
+pub pending_so : (x : Stage) (pending : Bool) → awaits_at x pending ≡ true → pending ≡ true
 pending_so stage.Between pending e = absurd (cc)
 pending_so (stage.Running given) pending e = e
 pending_so (stage.Prepared b) pending e = absurd (cc)
 
-none_is : {A : Type 0} (o : Option A) → is_none o ≡ true → o ≡ None
+pub none_is : {A : Type 0} (o : Option A) → is_none o ≡ true → o ≡ None
 none_is None e = refl
 none_is (Some a) e = absurd (cc)
 
@@ -69,12 +69,12 @@ has_program g c m s waits = case (slice_get_cases m.plan.txns (m.course.begun - 
     case : ((t : Txn2) × (m.course.begun - 1 < length m.plan.txns) × (slice_get m.plan.txns (m.course.begun - 1) ≡ Some t)
         × (get_or m.plan.txns (m.course.begun - 1) t ≡ t)) ⊎ ((length m.plan.txns ≤ m.course.begun - 1) × (slice_get m.plan.txns (m.course.begun - 1) ≡ None)) → HasProgram g m
     case (inl h) =
-        let named = s.programs (m.course.begun - 1) h.0 h.2 in
+        let named = s.programs.there (m.course.begun - 1) h.0 h.2 in
         let both = the_program g.programs (slice_get m.plan.txns (m.course.begun - 1)) h.0 named.0 h.2 named.1 in
         record { loaded = named.0; now = both.0; there = both.1 }
     case (inr h) = absurd (let most = s.within.begun in omega (arith, some, h.0, most))
 
-code_there : (programs : List Loaded) (n : ℕ) (l : Loaded) → slice_get programs n ≡ Some l → slice_get (codes_of programs) n ≡ Some l.code
+pub code_there : (programs : List Loaded) (n : ℕ) (l : Loaded) → slice_get programs n ≡ Some l → slice_get (codes_of programs) n ≡ Some l.code
 code_there programs n l e = slice_get-map (λ (x : Loaded). x.code) programs n ∙ ap (option_map (λ (x : Loaded). x.code)) e
 
 -- a pending job fits the codes of the programs

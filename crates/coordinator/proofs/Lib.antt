@@ -2,6 +2,7 @@ pub mod MemoryLemmas
 pub mod AttemptLemmas
 pub mod SegmentLemmas
 pub mod JobLemmas
+pub mod OneJob
 pub mod StepLemmas
 pub mod DecidingLemmas
 pub mod CountingLemmas

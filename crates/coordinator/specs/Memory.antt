@@ -19,10 +19,11 @@ use Rattle.coordinator.specs.declared.memory.Stage.{Stage}
 use Rattle.coordinator.specs.declared.memory.Stage.TheVariants as stage
 use Rattle.coordinator.specs.declared.memory.Memory.{Memory}
 
--- what the definitions are given, and the programs by their numbers
+-- what the definitions are given, the programs by their numbers, and the number of each transaction's program
 pub record Given : Type 0 where
   pub rules : protocol.Rules
   pub programs : List Loaded
+  pub numbers : List ℕ
 
 -- a transaction, as what its program does
 abbrev pub txn_in : List Loaded → Txn2 → Txn
@@ -55,6 +56,11 @@ codes_of programs = map (λ l. l.code) programs
 -- each transaction names one of the programs
 abbrev pub HavePrograms : List Loaded → List Txn2 → Type 0
 HavePrograms programs txns = (i : ℕ) (t : Txn2) → slice_get txns i ≡ Some t → (l : Loaded) × (slice_get programs t.prog ≡ Some l)
+
+-- by the number that is given for it
+pub record NamePrograms (g : Given) (txns : List Txn2) : Type 0 where
+  pub there : HavePrograms g.programs txns
+  pub numbers : map (λ (t : Txn2). t.prog) txns ≡ g.numbers
 
 -- the limits of a plan
 pub record IsWithinLimits (p : Plan) : Type 0 where
@@ -107,7 +113,7 @@ HasBegun (stage.Prepared b) k = 0 < k.begun
 pub record StandsFor (g : Given) (c : ClientState) (m : Memory) : Type 0 where
   pub rules : g.rules ≡ rules_of g.programs m.plan
   pub limits : IsWithinLimits m.plan
-  pub programs : HavePrograms g.programs m.plan.txns
+  pub programs : NamePrograms g m.plan.txns
   pub course : course_of c ≡ m.course
   pub within : IsWithin m.plan m.course
   pub started : HasBegun m.stage m.course

@@ -4,7 +4,7 @@ ghost use Rattle.protocol.specs.Client.Attempts.{can_go, has_pending};
 ghost use Rattle.continuation.specs.Job.{FitsCodes};
 ghost use Rattle.protocol.specs.Client.Step.{client_step, on_hurry};
 ghost use Rattle.protocol.specs.Client.Step.Input.{Goes, Runs, Hurries, Comes};
-ghost use Rattle.coordinator.specs.Memory.{Given, HavePrograms, IsWithinLimits, awaits, codes_of, pending_job, rules_of};
+ghost use Rattle.coordinator.specs.Memory.{Given, IsWithinLimits, NamePrograms, awaits, codes_of, pending_job, rules_of};
 
 use crate::memory::{Attempt, Course, Memory, Plan, Rules, Stage, Txn2};
 use continuation::{Done, Job};
@@ -40,7 +40,7 @@ impl Coordinator {
         rules: Rules,
     ) -> Result<Coordinator, NoMemory>
         requires { IsWithinLimits (record { client = client; rules = rules; txns = txns }) }
-        ensures { IfOk result (λ s. (g : Given) → g.rules ≡ rules_of g.programs (record { client = client; rules = rules; txns = txns }) → HavePrograms g.programs txns → StandsFor g fresh_client s) }
+        ensures { IfOk result (λ s. (g : Given) → g.rules ≡ rules_of g.programs (record { client = client; rules = rules; txns = txns }) → NamePrograms g txns → StandsFor g fresh_client s) }
     {
         let ver = Version { ts: 0, client: 0 };
         Ok(Coordinator {

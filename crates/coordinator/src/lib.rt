@@ -7,7 +7,8 @@
 //! `following`, `deciding` and `counting`; `step` says which of them takes an envelope. `jobs` compares jobs. The proofs
 //! follow it:
 //! `MemoryLemmas` shows what the current program does, and each file beside it the turns of one room. Of counting,
-//! `VoteLemmas` and `AcceptLemmas` show what a vote and an acceptance leave to do (`specs/Counting`).
+//! `VoteLemmas` and `AcceptLemmas` show what a vote and an acceptance leave to do (`specs/Counting`). `OneJob` shows that what
+//! a client is given and what is remembered of it fix its pending job.
 #![tactic(auto)]
 
 mod attempts;

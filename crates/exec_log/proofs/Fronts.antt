@@ -54,3 +54,10 @@ module _ {A : Type 0} where
       let tails : xs ++ x ∷ [] ≡ ys ++ y ∷ [] = cc in
       let rest = one_front xs ys x y tails in
       cc
+
+  -- and so is the last element
+  pub one_last : (xs ys : List A) (x y : A) → xs ++ x ∷ [] ≡ ys ++ y ∷ [] → x ≡ y
+  one_last [] [] x y e = cc
+  one_last [] (b ∷ ys) x y e = absurd (not_none ys y (cc))
+  one_last (a ∷ xs) [] x y e = absurd (not_empty xs x (cc))
+  one_last (a ∷ xs) (b ∷ ys) x y e = let tails : xs ++ x ∷ [] ≡ ys ++ y ∷ [] = cc in one_last xs ys x y tails

@@ -7,3 +7,4 @@ pub mod Labelling
 pub mod Taking
 pub mod Contents
 pub mod LastJobs
+pub mod OneJob

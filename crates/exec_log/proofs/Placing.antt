@@ -25,7 +25,7 @@ hidden : (c : Bool) (x y : ℤ) (o : Option ℤ) → first_of c x o ≡ first_of
 hidden true x y o = refl
 hidden false x y o = refl
 
-not_before_itself : (k j : Key) → key_before k j ≡ true → k ≡ j → ⊥
+pub not_before_itself : (k j : Key) → key_before k j ≡ true → k ≡ j → ⊥
 not_before_itself k j b e = true_is_not_false (subst (λ i. key_before k i ≡ true) (sym e) b) (key_before_total.irreflexive k)
 
 found_placed : (b s : Bool) (e x : Entry) (xs later : List Entry) (k : Key) → key_before x.key e.key ≡ b → same_key x.key e.key ≡ s →
@@ -47,7 +47,7 @@ found-with_entry e [] k = refl
 found-with_entry e (x ∷ xs) k =
     found_placed (key_before x.key e.key) (same_key x.key e.key) e x xs (with_entry e xs) k refl refl (found-with_entry e xs k)
 
-below_all : (k j : Key) (xs : List Entry) → key_before k j ≡ true → IsBelow j xs → IsBelow k xs
+pub below_all : (k j : Key) (xs : List Entry) → key_before k j ≡ true → IsBelow j xs → IsBelow k xs
 below_all k j [] b h = tt
 below_all k j (x ∷ xs) b h = (key_before_total.transitive k j x.key b h.0, below_all k j xs b h.1)
 

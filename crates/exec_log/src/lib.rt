@@ -7,7 +7,8 @@
 //! answers, so that it knows what the replay knows (`AskedReads`), also with one read more (`OneMore`); what was done
 //! before a read is a front of what was done, so that a log cut there stands for the answers before the read and the new
 //! one (`Rewinding`), and labels change nothing of it (`Labelling`); a log with the segment of its last job (`LastJobs`)
-//! stands for all its answers (`Taking`), and its content is the replay's (`Contents`).
+//! stands for all its answers (`Taking`), and its content is the replay's (`Contents`). The answers fix the last job
+//! (`OneJob`).
 #![tactic(auto)]
 
 mod copies;

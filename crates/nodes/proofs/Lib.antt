@@ -3,5 +3,6 @@ pub mod Placed
 pub mod WardenTurns
 pub mod TurnedWardens
 pub mod ClientJobs
+pub mod OneJob
 pub mod NodesLemmas
 pub mod PickLemmas

@@ -1,5 +1,5 @@
 -- When clients stand for those of a world.
-use Rattle.std.specs.Prelude.{◌≡◌, ℕ, suc, ◌-◌, List, ◌++◌, map, length, Option, Some, None, flat_map}
+use Rattle.std.specs.Prelude.{◌≡◌, ℕ, suc, ◌+◌, ◌-◌, List, [], ◌++◌, map, length, get_or, Option, Some, None, flat_map}
 use Rattle.std.specs.List.{slice_get}
 use Rattle.protocol.specs.Words.{Envelope, Client as ClientNode}
 use Rattle.protocol.specs.Client.State.{ClientState, Turn}
@@ -7,17 +7,22 @@ use Rattle.protocol.specs.World.State.{Plan, rules}
 use Rattle.protocol.specs.World.Events.{at, to_all}
 use Rattle.continuation.specs.declared.segment.Job.{Job}
 use Rattle.execution.specs.Execution.{Loaded}
-use Rattle.coordinator.specs.Memory.{Given, HavePrograms, pending_job, txn_in}
+use Rattle.coordinator.specs.Memory.{Given, NamePrograms, pending_job, txn_in}
 use Rattle.coordinator.specs.declared.memory.Rules.{Rules as ScriptRules}
 use Rattle.coordinator.specs.declared.memory.Txn2.{Txn2}
 use Rattle.coordinator.specs.Coordinator.{StandsFor}
 use Rattle.coordinator.specs.declared.coordinator.Coordinator.{Coordinator}
 use Rattle.nodes.specs.declared.clients.Clients.{Clients}
 
--- a plan, and the programs of its transactions by their numbers
+-- a plan, the programs of its transactions by their numbers, and for each client the number of each transaction's program
 pub record Loads : Type 0 where
   pub plan : Plan
   pub programs : List Loaded
+  pub numbers : List (List ℕ)
+
+-- what client c is given
+abbrev pub given : Loads → ℕ → Given
+given l c = record { rules = rules l.plan c; programs = l.programs; numbers = get_or l.numbers (c - 1) [] }
 
 -- the plan has these rules, and clients with these transactions, each of which names a program
 pub record IsPlanOf (l : Loads) (rules : ScriptRules) (txns : List (List Txn2)) : Type 0 where
@@ -26,11 +31,7 @@ pub record IsPlanOf (l : Loads) (rules : ScriptRules) (txns : List (List Txn2)) 
   pub execs : l.plan.execs ≡ rules.execs
   pub gap : l.plan.gap ≡ rules.gap
   pub clients : l.plan.clients ≡ map (map (txn_in l.programs)) txns
-  pub programs : (i : ℕ) (own : List Txn2) → slice_get txns i ≡ Some own → HavePrograms l.programs own
-
--- what client c is given
-abbrev pub given : Loads → ℕ → Given
-given l c = record { rules = rules l.plan c; programs = l.programs }
+  pub programs : (i : ℕ) (own : List Txn2) → slice_get txns i ≡ Some own → NamePrograms (given l (i + 1)) own
 
 -- a coordinator that stands for what client c remembers
 abbrev pub IsClient : Loads → ℕ → ClientState → Coordinator → Type 0

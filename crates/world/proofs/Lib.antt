@@ -3,6 +3,7 @@ mod Keeping
 mod Begun
 mod SoundWorlds
 mod LawsOfWorlds
+mod PendingJobs
 mod WorldLemmas
 mod SetupLemmas
 mod LimitsLemmas

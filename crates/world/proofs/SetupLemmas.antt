@@ -1,5 +1,5 @@
 -- The plan of a setup is what its clients, wardens and first values say, by the programs that have code.
-use Rattle.std.proofs.Common.{◌≡◌, ℕ, ℤ, suc, ◌<◌, List, [], ◌∷◌, Some, map, length, refl, sym, ap, ◌∙◌, subst, arith}
+use Rattle.std.proofs.Common.{◌≡◌, ℕ, ℤ, suc, ◌+◌, ◌-◌, ◌<◌, List, [], ◌∷◌, Some, map, length, get_or, refl, sym, ap, ◌∙◌, subst, arith}
 use Rattle.std.specs.Prelude.{zero, slice_get}
 use Rattle.std.specs.List.{AllByRecursion}
 use Rattle.std.specs.Option.{option_map}
@@ -16,7 +16,7 @@ use Rattle.script.specs.Meaning.{named_of}
 use Rattle.script.specs.Sayable.{IsTxn, IsClient}
 use Rattle.script_plans.specs.Plans.{first_of, program_of, start_of}
 use Rattle.world.specs.declared.origin.Origin.{Origin}
-use Rattle.world.specs.Origin.{IsOrigin, loads}
+use Rattle.world.specs.Origin.{IsOrigin, loads, numbers_in}
 use Rattle.world.specs.Setup.{rules_of, txn_of}
 
 get_some : {A : Type 0} (xs : List A) (i : ℕ) → i < length xs → (x : A) × (slice_get xs i ≡ Some x)
@@ -80,6 +80,17 @@ module _ (o : Origin) (is : IsOrigin o) where
   clients_have (ts ∷ cs) each zero own e = let f : map txn_of ts ≡ own = cc in subst (HavePrograms is.codes.programs) f (txns_have ts each.0.each)
   clients_have (ts ∷ cs) each (suc i) own e = clients_have cs each.1 i own e
 
+  own_numbers : (ts : List Txn) → map (λ (t : Txn2). t.prog) (map txn_of ts) ≡ map (λ (t : Txn). t.prog) ts
+  own_numbers [] = refl
+  own_numbers (t ∷ ts) = ap (λ ns. t.prog ∷ ns) (own_numbers ts)
+
+  -- by the numbers that the setup says
+  numbers_are : (cs : List (List Txn)) (i : ℕ) (own : List Txn2) → slice_get (map (map txn_of) cs) i ≡ Some own →
+      map (λ (t : Txn2). t.prog) own ≡ get_or (map (map (λ (t : Txn). t.prog)) cs) i []
+  numbers_are [] i own e = absurd (cc e)
+  numbers_are (ts ∷ cs) zero own e = let f : map txn_of ts ≡ own = cc in ap (map (λ (t : Txn2). t.prog)) (sym f) ∙ own_numbers ts
+  numbers_are (ts ∷ cs) (suc i) own e = numbers_are cs i own e
+
   -- the nodes of a world are made by what the setup says
   pub is_setup_of : IsSetupOf (loads o is) (rules_of o.setup) (map (map txn_of) o.setup.clients) o.setup.wardens (map first_of o.setup.firsts)
   is_setup_of = record {
@@ -89,7 +100,12 @@ module _ (o : Origin) (is : IsOrigin o) where
       execs = refl;
       gap = refl;
       clients = clients_same o.setup.clients is.says.clients.each;
-      programs = clients_have o.setup.clients is.says.clients.each;
+      programs = λ i own e.
+          let at : i ≡ i + 1 - 1 = omega arith in
+          record {
+            there = clients_have o.setup.clients is.says.clients.each i own e;
+            numbers = numbers_are o.setup.clients i own e ∙ ap (λ n. get_or (numbers_in o.setup) n []) at;
+          };
     };
     wardens = refl;
     firsts = refl;

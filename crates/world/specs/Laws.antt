@@ -1,6 +1,6 @@
 -- The laws of the protocol, said of worlds of real nodes: of each World and the events that it took.
-use Rattle.std.specs.Prelude.{ℕ, List, reverse}
-use Rattle.protocol.specs.Words.{Version, Drops, BaseEntry}
+use Rattle.std.specs.Prelude.{◌≡◌, ℕ, List, reverse}
+use Rattle.protocol.specs.Words.{NodeId, Version, Drops, BaseEntry}
 use Rattle.protocol.specs.World.State.{World, first_world}
 use Rattle.protocol.specs.World.Decided.{WasSent}
 use Rattle.protocol.specs.World.Committed.{committed_executions}
@@ -15,6 +15,7 @@ use Rattle.world.specs.declared.origin.Origin.{Origin}
 use Rattle.world.specs.Origin.{script, plan, world_at}
 use Rattle.world.specs.declared.world.World.{World as Kept}
 use Rattle.world.specs.World.{Stands}
+use Rattle.world.specs.Jobs.{pending_of}
 
 -- a law of each World that stands for the events that it took
 abbrev pub OfWorlds : (Origin → History → World → Type 0) → Type 0
@@ -41,3 +42,8 @@ SerialReads = OfWorlds (λ o h w. IsSerialWorld o w)
 abbrev pub FirstCommits : Type 0
 FirstCommits = OfWorlds (λ o h w. IsUndisturbed (plan o) first_world (reverse h) → IsSettled w →
     (c n : ℕ) → HasBegun w c n → IsApart w c n → IsFirstCommit w c n)
+
+-- two Worlds of one origin that took the same events have the same pending job at each node, to the place in the code, whether
+-- a World ran the jobs before it or was given what was done of them
+abbrev pub OnePendingJob : Type 0
+OnePendingJob = (k l : Kept) (o : Origin) (h : History) → Stands k o h → Stands l o h → (n : NodeId) → pending_of k n ≡ pending_of l n

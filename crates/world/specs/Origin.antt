@@ -1,5 +1,5 @@
 -- What a world is made of: a setup, and its programs with their code.
-use Rattle.std.specs.Prelude.{◌≡◌, List, map}
+use Rattle.std.specs.Prelude.{◌≡◌, ℕ, List, map}
 use Rattle.txn_lang.specs.Program.{Program}
 use Rattle.flat_code.specs.Operation.{Flat}
 use Rattle.execution.specs.Execution.{Loaded}
@@ -7,6 +7,7 @@ use Rattle.coordinator.specs.Memory.{codes_of}
 use Rattle.nodes.specs.Clients.{Loads}
 use Rattle.protocol.specs.World.State.{Plan, World}
 use Rattle.protocol_plans.specs.Scripted.{Scripted, plan_of}
+use Rattle.script.specs.declared.setup.Txn.{Txn}
 use Rattle.script.specs.declared.setup.Setup.{Setup}
 use Rattle.script.specs.Sayable.{IsSetup}
 use Rattle.script_plans.specs.Plans.{scripted}
@@ -36,9 +37,13 @@ script o = scripted o.setup
 abbrev pub plan : Origin → Plan
 plan o = plan_of (scripted o.setup)
 
+-- the numbers of the programs of each client's transactions
+abbrev pub numbers_in : Setup → List (List ℕ)
+numbers_in s = map (map (λ (t : Txn). t.prog)) s.clients
+
 -- the plan with the programs
 abbrev pub loads : (o : Origin) → IsOrigin o → Loads
-loads o is = record { plan = plan_of (scripted o.setup); programs = is.codes.programs }
+loads o is = record { plan = plan_of (scripted o.setup); programs = is.codes.programs; numbers = numbers_in o.setup }
 
 -- the world after a history
 abbrev pub world_at : Origin → History → World

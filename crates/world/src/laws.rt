@@ -1,6 +1,6 @@
 //! What holds of each World, whatever events it took: the laws of the protocol, whose worlds it stands for.
 
-ghost use Rattle.world.specs.Laws.{Agreement, OneExecution, SerialReads, FirstCommits};
+ghost use Rattle.world.specs.Laws.{Agreement, OneExecution, SerialReads, FirstCommits, OnePendingJob};
 
 /// No two nodes decide an execution differently.
 pub fn agreement()
@@ -22,4 +22,10 @@ pub fn serial_reads()
 /// first execution.
 pub fn first_commits()
     ensures { FirstCommits }
+{}
+
+/// The events that a World took fix each pending job, to its place in the code, whether the jobs before it were run by the World or
+/// given back to it.
+pub fn one_pending_job()
+    ensures { OnePendingJob }
 {}

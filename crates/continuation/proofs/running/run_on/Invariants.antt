@@ -8,7 +8,7 @@ use Rattle.continuation.proofs.running.run_on.Given as goal
 
 abbrev pub invariant-loop : goal.invariant-loop
 invariant-loop g l = record {
-  under : (a : Actions) (known : List Entry) → Does l.code l.fn.at a → KnowsAs l.seen known → IsUnderway l.code l.counter l.running a known;
+  under : (a : Actions) (known : List Entry) → Does l.code l.fn.at a → KnowsAs l.seen known → IsUnderway l.code l.fn.at l.counter l.running a known;
   few : l.running.ran ≤ l.counter;
   counted : l.steps ≡ l.fn.steps + l.running.ran;
 }
