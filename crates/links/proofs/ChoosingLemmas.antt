@@ -1,11 +1,11 @@
 -- The first link of a kind and slot is found, and taking it away leaves the first ones of the other slots.
-use Rattle.std.proofs.Common.{◌≡◌, ◌≢◌, ℕ, zero, suc, ◌<◌, ◌≤◌, ◌+◌, Bool, true, false, List, [], ◌∷◌, ◌++◌, Option, Some, None, ◌⊎◌, inl, inr, map, length, refl, sym, ap, ◌∙◌, subst, arith}
+use Rattle.std.proofs.Common.{◌≡◌, ◌≢◌, ℕ, zero, suc, ◌<◌, ◌≤◌, Bool, true, false, List, [], ◌∷◌, ◌++◌, Some, None, ◌⊎◌, inl, inr, map, length, refl, sym, ap, ◌∙◌, subst, arith}
 use Rattle.std.specs.Prelude.{cond, ◌==◌, ◌&&◌, is_some}
 use Rattle.std.specs.List.{find, remove, slice_get}
 use Rattle.std.proofs.lemmas.Bool.Decides.{nat_tests}
 use Rattle.net_core.specs.Ruled.{LinkState}
 use Rattle.net_core.specs.declared.plan.LinkKind.{LinkKind}
-use Rattle.links.specs.Choosing.{same_kind, is_for, first_for, AreChosen, IsMissing, IsPlaceOf}
+use Rattle.links.specs.Choosing.{same_kind, is_for, first_for, AreChosen, IsMissing}
 
 -- none of them does
 pub find_none : {A : Type 0} (p : A → Bool) (xs : List A) → ((j : ℕ) (x : A) → slice_get xs j ≡ Some x → p x ≡ false) → find p xs ≡ None

@@ -1,4 +1,5 @@
 pub mod Recovered
 pub mod LateLemmas
+pub mod LateSetLemmas
 pub mod ChoiceLemmas
 mod ChoosingLemmas

@@ -1,3 +1,4 @@
+pub mod LateSet
 pub mod Shown
 pub mod Drawings
 pub mod Choosing

@@ -25,9 +25,7 @@ impl FairLink {
 }
 
 impl Link for FairLink {
-    ghost use Rattle.links.specs.Shown.{shown_state};
-
-    ghost state_of = { λ l. shown_state l.link };
+    ghost state_of = { λ l. l.link };
 
     fn kind(&self) -> LinkKind {
         self.link.kind()

@@ -67,6 +67,7 @@ pub fn remember(mind: &mut LinkMind, pick: Pick) -> Result<(), NoMemory>
     ensures ok { OnOk result (mind.new ≡ remembers pick mind.old) }
     ensures err { OnErr result (mind.new ≡ mind.old) }
     ensures slot { mind.new.slot ≡ mind.old.slot }
+    ensures late { mind.new.late ≡ mind.old.late }
 {
     match pick {
         Pick::Recover(exec) => mind.recovered.push(exec),

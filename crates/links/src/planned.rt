@@ -58,6 +58,7 @@ pub fn use_item(mind: &mut LinkMind, at: u64, pick: Pick) -> Result<(), NoMemory
     ensures ok { OnOk result ((pick, mind.new) ≡ picks_so pick (record mind.old { used = mind.old.used ++ at ∷ [] })) }
     ensures err { OnErr result (mind.new ≡ mind.old) }
     ensures slot { mind.new.slot ≡ mind.old.slot }
+    ensures late { mind.new.late ≡ mind.old.late }
 {
     mind.used.push(at)?;
     if remember(mind, pick).is_err() {
@@ -72,6 +73,7 @@ pub fn take_fair(mind: &mut LinkMind, menu: &Menu<'_>) -> Result<Pick, NoMemory>
     ensures ok { IfOk result (λ p. (p, mind.new) ≡ picks_so (fair_pick mind.old (shown menu.entry.now)) mind.old) }
     ensures err { OnErr result (mind.new ≡ mind.old) }
     ensures slot { mind.new.slot ≡ mind.old.slot }
+    ensures late { mind.new.late ≡ mind.old.late }
 {
     let pick = pick_fairly(mind.recovered.as_slice(), menu);
     remember(mind, pick)?;
@@ -134,6 +136,7 @@ pub fn take_entry(
     ensures ok { IfOk result (λ p. (p, mind.new) ≡ by_entry mind.old (shown menu.entry.now) entry) }
     ensures err { OnErr result (mind.new ≡ mind.old) }
     ensures slot { mind.new.slot ≡ mind.old.slot }
+    ensures late { mind.new.late ≡ mind.old.late }
 {
     match entry {
         None => take_fair(mind, menu),

@@ -5,8 +5,8 @@ use Rattle.net_core.specs.SeededRule.{chosen, past}
 use Rattle.links.specs.Drawings.{drawing}
 use Rattle.links.proofs.drawing.try_envelope.Goals as goal
 
-pub returns-then-is_drawn : goal.returns-then-is_drawn
-returns-then-is_drawn c = λ before choose_again.
+pub returns-then-is_drawn-clause-tried : goal.returns-then-is_drawn-clause-tried
+returns-then-is_drawn-clause-tried c = λ before choose_again.
     let d = drawing before c.args.draws.now in
     let place = c.in-Some.place in
     let late : d.late ++ place ∷ [] ≡ before ++ c.push.new.self =
@@ -17,8 +17,8 @@ returns-then-is_drawn c = λ before choose_again.
     (choose_again (record { late = d.late ++ place ∷ []; generator = (past 100 d).generator })) (Some (Deliver place), past 100 d))
     ∙ ap choose_again (λ i. record { late = late i; generator = sym (ap (λ e. e.rng) c.is_drawn.ensures.past) i })
 
-pub returns : goal.returns
-returns c = λ before choose_again.
+pub returns-clause-tried : goal.returns-clause-tried
+returns-clause-tried c = λ before choose_again.
     let d = drawing before c.args.draws.now in
     let place = c.in-Some.place in
     ap (chosen choose_again c.args.late_of_100 d) c.in-Some.is
