@@ -5,3 +5,4 @@ pub mod Rounds
 pub mod NodesFrom
 pub mod TurnsKept
 pub mod LinksBack
+pub mod Counts

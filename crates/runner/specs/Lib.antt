@@ -1,3 +1,4 @@
 pub mod Progress
 pub mod AtSlot
 pub mod WholeRun
+pub mod Growth

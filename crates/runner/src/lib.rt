@@ -6,6 +6,7 @@
 //!
 //! And it is made in rounds: between two visits the node that is due is the first from the next slot on that does not rest
 //! (`specs/AtSlot`, `proofs/NodesFrom`), so that each event is of the node that is due (`proofs/TurnsKept`, `Rounds`).
+//! Neither count of the journal ever falls (`specs/Growth`, `proofs/Counts`).
 //! The links come back with their picks, and those that tell a mind have followed their rule (`LinksBack`).
 #![tactic(auto)]
 

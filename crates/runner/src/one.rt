@@ -4,6 +4,7 @@ ghost use Rattle.hub.specs.Kept.{picks_in, rans_in};
 ghost use Rattle.hub.specs.Starts.{Start};
 ghost use Rattle.hub.specs.Views.{history, told_end};
 ghost use Rattle.net_core.specs.Rounds.{InRounds};
+ghost use Rattle.runner.specs.Growth.{HasGrown};
 ghost use Rattle.runner.specs.AtSlot.{IsAtSlot, KeepsTurns, HasTurns};
 ghost use Rattle.runner.specs.Progress.{IsRecalled, IsVisited, IsRound};
 
@@ -33,6 +34,7 @@ pub fn run_one<M: Machine, L: Link, N: Named<M::Origin>>(
     ensures turns { IfOk result (λ r. r.turns ≡ picks_in (history hub.new) - picks_in (history hub.old)) }
     ensures rans { IfOk result (λ r. (s : Start M.Origin) → N.start ≡ Some s
         → r.rans ≡ rans_in (M.rules s.origin) (history hub.new) - rans_in (M.rules s.origin) (history hub.old)) }
+    ensures grown { OnOk result ((s : Start M.Origin) → N.start ≡ Some s → HasGrown (M.rules s.origin) hub.old hub.new) }
     ensures rounds { OnOk result ((s : Start M.Origin) → N.start ≡ Some s → hub.old.journal ≡ [] → hub.old.ended ≡ None
         → InRounds (M.rules s.origin) s.turns (history hub.new)) }
     ensures whole { OnOk result (hub.new.broken ≡ false) }
@@ -60,6 +62,7 @@ fn run_rounds<M: Machine, L: Link, N: Named<M::Origin>>(
     requires recalled { (s : Start M.Origin) → N.start ≡ Some s → IsRecalled (M.rules s.origin) hub.old }
     ensures ended { IfOk result (λ e. told_end hub.new ≡ Some e) }
     ensures end { IfOk result (λ e. (s : Start M.Origin) → N.start ≡ Some s → end_of (M.rules s.origin) s.turns (history hub.new) ≡ Some e) }
+    ensures grown { OnOk result ((s : Start M.Origin) → N.start ≡ Some s → HasGrown (M.rules s.origin) hub.old hub.new) }
     ensures rounds { OnOk result ((s : Start M.Origin) → N.start ≡ Some s → IsAtSlot (M.rules s.origin) s.turns 0 hub.old
         → InRounds (M.rules s.origin) s.turns (history hub.new)) }
     ensures whole { OnOk result (hub.new.broken ≡ false) }
@@ -82,6 +85,7 @@ fn round<M: Machine, L: Link, N: Named<M::Origin>>(
     requires { (s : Start M.Origin) × (N.start ≡ Some s) × M.kit_of s.origin kit.now }
     ensures ok { OnOk result ((s : Start M.Origin) → N.start ≡ Some s → IsRecalled (M.rules s.origin) hub.old
         → IsRound (M.rules s.origin) s.turns hub.old hub.new) }
+    ensures grown { OnOk result ((s : Start M.Origin) → N.start ≡ Some s → HasGrown (M.rules s.origin) hub.old hub.new) }
     ensures keeps { OnOk result ((s : Start M.Origin) → N.start ≡ Some s → IsRecalled (M.rules s.origin) hub.old
         → IsAtSlot (M.rules s.origin) s.turns 0 hub.old → HasTurns (M.rules s.origin) s.turns hub.new) }
     ensures err { OnErr result (hub.new.spoiled ≡ true) }
@@ -106,6 +110,7 @@ fn visit<M: Machine, L: Link, N: Named<M::Origin>>(
     requires slot { slot < hub.old.nodes }
     ensures ok { OnOk result ((s : Start M.Origin) → N.start ≡ Some s → IsRecalled (M.rules s.origin) hub.old
         → IsVisited (M.rules s.origin) s.turns slot hub.old hub.new) }
+    ensures grown { OnOk result ((s : Start M.Origin) → N.start ≡ Some s → HasGrown (M.rules s.origin) hub.old hub.new) }
     ensures keeps { OnOk result ((s : Start M.Origin) → N.start ≡ Some s → IsRecalled (M.rules s.origin) hub.old
         → IsAtSlot (M.rules s.origin) s.turns slot hub.old → KeepsTurns (M.rules s.origin) s.turns slot hub.new) }
     ensures sound { OnOk result (hub.new.spoiled ≡ false) }

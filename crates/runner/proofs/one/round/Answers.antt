@@ -1,6 +1,7 @@
 use Rattle.std.proofs.Common.{◌≡◌, suc, ◌+◌, false, length, is_some, inr, subst, ◌∙◌, arith, rules}
 use Rattle.runner.specs.Progress.{IsRoundSoFar}
 use Rattle.runner.specs.AtSlot.{IsAtSlot}
+use Rattle.runner.proofs.Counts.{grown_on}
 use Rattle.runner.proofs.Rounds.{one_more, next_slot, all_visited, turned_round}
 use Rattle.runner.proofs.one.round.Goals as goal
 
@@ -15,6 +16,8 @@ loop-slot-preserved g c =
       last = c.loop-slot.invariant.last;
       some = c.loop-slot.invariant.some;
       all = c.loop-slot.invariant.all;
+      grown = λ s is.
+          grown_on (g.M.Machine.rules s.origin) c.args.hub.now c.loop-slot.hub new (c.loop-slot.invariant.grown s is) (c.in_ok-visit.ensures.grown s is);
       so_far = λ s is on.
           let so = c.loop-slot.invariant.so_far s is on in
           one_more (g.M.Machine.rules s.origin) s.turns slot c.args.hub.now c.loop-slot.hub new so (c.in_ok-visit.ensures.ok s is so.0) goes_on;
@@ -39,3 +42,7 @@ returns-clause-keeps g c = λ s is on at.
     let all = c.loop-slot.invariant.all s is in
     let over : c.loop-slot.slot ≡ length m.nodes = omega (arith, all, c.loop-slot-test.false, c.loop-slot.auto) in
     inr (turned_round m s.turns c.loop-slot.slot c.loop-slot.hub over (c.loop-slot.invariant.kept s is on at))
+
+pub returns-then-is_some-clause-grown : goal.returns-then-is_some-clause-grown
+returns-then-is_some-clause-grown g c = λ s is.
+    grown_on (g.M.Machine.rules s.origin) c.args.hub.now c.loop-slot.hub c.visit.new.hub (c.loop-slot.invariant.grown s is) (c.in_ok-visit.ensures.grown s is)
