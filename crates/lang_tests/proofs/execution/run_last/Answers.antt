@@ -1,7 +1,14 @@
-use Rattle.std.proofs.Common.{◌∙◌, ap}
+use Rattle.std.proofs.Common.{◌∙◌, ap, refl, rules}
 use Rattle.continuation.specs.declared.segment.Job.{Job}
-use Rattle.lang_tests.proofs.ExecutionLemmas.{only_code, stands_again}
+use Rattle.lang_tests.proofs.ExecutionLemmas.{fits_only, only_code, stands_again}
 use Rattle.lang_tests.proofs.execution.run_last.Goals as goal
+
+pub run_job-requires : goal.run_job-requires
+run_job-requires c = (
+  search rules,
+  fits_only c.as_slice.result.now c.args.code c.in_ok-share.field-0 c.args.log (record { client = 1; prog = 0; serial = 0; at = c.args.at })
+      c.requires (c.as_slice.ensures.value ∙ c.in_ok-codes.ensures.items) c.in_ok-share.ensures refl,
+)
 
 pub returns : goal.returns
 returns c =
