@@ -1,180 +1,138 @@
-//! Bodies of envelopes as data of constant size: what comes to a replica, and what it says.
+//! Bodies of envelopes as data of constant size.
 
-ghost use Rattle.std.specs.Prelude.{◌≤◌, length, IfOk};
-ghost use Rattle.replica.specs.Limits.{HasFewWrites, IsWithinLimits};
-ghost use Rattle.protocol.specs.Lists.{IsRisingBy};
-ghost use Rattle.morty_base.specs.Names.{key_before};
-
-use morty_base::{Ending, Exec, Key, List, NoMemory, Version, Wid};
+use morty_base::{Ending, Exec, Key, List, Version, Wid};
 use msg::{Accept, BaseEntry, Body, Choice, Content, Kept, Read, Vote, Write};
 use std::alloc::Global;
+use std::process::Abort;
 
-/// What an execution read and wrote, and how it ended.
-#[derive(Clone, Copy)]
+/// What is said where memory runs out.
+pub(crate) const MEMORY: &str = "memory";
+
+/// What an execution read, wrote and printed, and how it ended.
 pub(crate) struct Made {
     pub reads: &'static [Read],
     pub writes: &'static [Write],
+    pub out: &'static [i64],
     pub ending: Ending,
 }
 
-/// What comes to a replica. A base has one entry at most.
-#[derive(Clone, Copy)]
-pub(crate) enum Heard {
+/// What a node says.
+pub(crate) enum Said {
     Get(Exec, Key),
+    Note(Version, Key, Wid, i64, bool, Option<Wid>),
     Puts(Exec, &'static [Write]),
     Prepare(Exec, Made),
+    Vote(Exec, Vote),
     Finalize(Exec, u32, Choice, Option<Made>),
+    Accepted(Exec, u32),
     Decide(Exec, Choice, Option<Made>),
     Ask(Exec, u32),
-    Fence(Version),
-    Drop(Version, Option<BaseEntry>),
-    Other(Said),
-}
-
-/// What a replica says.
-#[derive(Clone, Copy)]
-pub(crate) enum Said {
-    Note(Version, Key, Wid, i64, bool, Option<Wid>),
-    Vote(Exec, Vote),
-    Accepted(Exec, u32),
     Told(Exec, u32, Option<Vote>, Option<Accept>, Option<Choice>, Option<Made>),
-    Fenced(Version, Option<BaseEntry>, &'static [(Exec, Made)], &'static [(Exec, Made)]),
+    Fence(Version),
+    Fenced(Version, &'static [BaseEntry], &'static [(Exec, Made)], &'static [(Exec, Made)]),
+    Drop(Version, &'static [BaseEntry]),
     TooOld(Version, Version),
 }
 
-// No row has more than 64 writes.
-fn few(writes: &[Write]) -> &[Write]
-    ensures { length result.now ≤ 64 }
-{
-    if writes.len() <= 64 { writes } else { &[] }
-}
-
 /// The content.
-pub(crate) fn content(alloc: Global, made: Made) -> Result<Content, NoMemory>
-    ensures { IfOk result (λ c. length c.writes ≤ 4294967295) }
-{
-    let reads = List::from_slice(alloc, made.reads)?;
-    let writes = List::from_slice(alloc, few(made.writes))?;
-    Ok(Content {
-        reads,
-        writes,
-        out: List::new(alloc),
+pub(crate) fn content(rt: &impl Abort, alloc: Global, made: &Made) -> Content {
+    Content {
+        reads: List::from_slice(alloc, made.reads).expect(rt, MEMORY),
+        writes: List::from_slice(alloc, made.writes).expect(rt, MEMORY),
+        out: List::from_slice(alloc, made.out).expect(rt, MEMORY),
         ending: made.ending,
-    })
+    }
 }
 
-fn content_if(alloc: Global, made: Option<Made>) -> Result<Option<Content>, NoMemory>
-    ensures { IfOk result HasFewWrites }
-{
+fn content_if(rt: &impl Abort, alloc: Global, made: &Option<Made>) -> Option<Content> {
     match made {
-        None => Ok(None),
-        Some(made) => {
-            let content = content(alloc, made)?;
-            Ok(Some(content))
-        }
+        None => None,
+        Some(made) => Some(content(rt, alloc, made)),
     }
 }
 
-/// A base of one entry at most.
-pub(crate) fn base(alloc: Global, entry: Option<BaseEntry>) -> Result<List<BaseEntry>, NoMemory>
-    ensures { IfOk result (IsRisingBy (λ a b. key_before a.key b.key)) }
-{
-    match entry {
-        None => Ok(List::new(alloc)),
-        Some(entry) => List::from_slice(alloc, &[entry]),
-    }
+fn base(rt: &impl Abort, alloc: Global, entries: &[BaseEntry]) -> List<BaseEntry> {
+    List::from_slice(alloc, entries).expect(rt, MEMORY)
 }
 
-fn kept(alloc: Global, made: &[(Exec, Made)]) -> Result<List<Kept>, NoMemory> {
-    let mut out = List::new(alloc);
+fn kept(rt: &impl Abort, alloc: Global, made: &[(Exec, Made)]) -> List<Kept> {
+    let mut kept = List::new(alloc);
     for (exec, made) in made {
-        let content = content(alloc, *made)?;
-        out.push(Kept {
+        let content = content(rt, alloc, made);
+        kept.push(Kept {
             exec: *exec,
             content,
-        })?;
+        })
+        .expect(rt, MEMORY);
     }
-    Ok(out)
+    kept
 }
 
-/// The body that a replica says.
-pub(crate) fn said_body(alloc: Global, said: Said) -> Result<Body, NoMemory>
-    ensures { IfOk result IsWithinLimits }
-{
+/// The body that is said.
+pub(crate) fn body(rt: &impl Abort, alloc: Global, said: &Said) -> Body {
     match said {
-        Said::Note(ver, key, wid, value, sure, gone) => Ok(Body::Note {
-            ver,
-            key,
-            wid,
-            value,
-            sure,
-            gone,
-        }),
-        Said::Vote(exec, vote) => Ok(Body::Vote { exec, vote }),
-        Said::Accepted(exec, view) => Ok(Body::Accepted { exec, view }),
-        Said::Told(exec, view, vote, accepted, decided, made) => {
-            let content = content_if(alloc, made)?;
-            Ok(Body::Told {
-                exec,
-                view,
-                vote,
-                accepted,
-                decided,
-                content,
-            })
-        }
-        Said::Fenced(w, entry, committed, voted) => {
-            let base = base(alloc, entry)?;
-            let committed = kept(alloc, committed)?;
-            let voted = kept(alloc, voted)?;
-            Ok(Body::Fenced {
-                w,
-                base,
-                committed,
-                voted,
-            })
-        }
-        Said::TooOld(ver, w) => Ok(Body::TooOld { ver, w }),
-    }
-}
-
-/// The body that comes to a replica.
-pub(crate) fn heard_body(alloc: Global, heard: Heard) -> Result<Body, NoMemory>
-    ensures { IfOk result IsWithinLimits }
-{
-    match heard {
-        Heard::Get(exec, key) => Ok(Body::Get { exec, key }),
-        Heard::Puts(exec, writes) => {
-            let writes = List::from_slice(alloc, few(writes))?;
-            Ok(Body::Puts { exec, writes })
-        }
-        Heard::Prepare(exec, made) => {
-            let content = content(alloc, made)?;
-            Ok(Body::Prepare { exec, content })
-        }
-        Heard::Finalize(exec, view, choice, made) => {
-            let content = content_if(alloc, made)?;
-            Ok(Body::Finalize {
-                exec,
-                view,
-                choice,
-                content,
-            })
-        }
-        Heard::Decide(exec, choice, made) => {
-            let content = content_if(alloc, made)?;
-            Ok(Body::Decide {
-                exec,
-                choice,
-                content,
-            })
-        }
-        Heard::Ask(exec, view) => Ok(Body::Ask { exec, view }),
-        Heard::Fence(w) => Ok(Body::Fence { w }),
-        Heard::Drop(w, entry) => {
-            let base = base(alloc, entry)?;
-            Ok(Body::Drop { w, base })
-        }
-        Heard::Other(other) => said_body(alloc, other),
+        Said::Get(exec, key) => Body::Get {
+            exec: *exec,
+            key: *key,
+        },
+        Said::Note(ver, key, wid, value, sure, gone) => Body::Note {
+            ver: *ver,
+            key: *key,
+            wid: *wid,
+            value: *value,
+            sure: *sure,
+            gone: *gone,
+        },
+        Said::Puts(exec, writes) => Body::Puts {
+            exec: *exec,
+            writes: List::from_slice(alloc, writes).expect(rt, MEMORY),
+        },
+        Said::Prepare(exec, made) => Body::Prepare {
+            exec: *exec,
+            content: content(rt, alloc, made),
+        },
+        Said::Vote(exec, vote) => Body::Vote {
+            exec: *exec,
+            vote: *vote,
+        },
+        Said::Finalize(exec, view, choice, made) => Body::Finalize {
+            exec: *exec,
+            view: *view,
+            choice: *choice,
+            content: content_if(rt, alloc, made),
+        },
+        Said::Accepted(exec, view) => Body::Accepted {
+            exec: *exec,
+            view: *view,
+        },
+        Said::Decide(exec, choice, made) => Body::Decide {
+            exec: *exec,
+            choice: *choice,
+            content: content_if(rt, alloc, made),
+        },
+        Said::Ask(exec, view) => Body::Ask {
+            exec: *exec,
+            view: *view,
+        },
+        Said::Told(exec, view, vote, accepted, decided, made) => Body::Told {
+            exec: *exec,
+            view: *view,
+            vote: *vote,
+            accepted: *accepted,
+            decided: *decided,
+            content: content_if(rt, alloc, made),
+        },
+        Said::Fence(w) => Body::Fence { w: *w },
+        Said::Fenced(w, entries, committed, voted) => Body::Fenced {
+            w: *w,
+            base: base(rt, alloc, entries),
+            committed: kept(rt, alloc, committed),
+            voted: kept(rt, alloc, voted),
+        },
+        Said::Drop(w, entries) => Body::Drop {
+            w: *w,
+            base: base(rt, alloc, entries),
+        },
+        Said::TooOld(ver, w) => Body::TooOld { ver: *ver, w: *w },
     }
 }

@@ -1,6 +1,9 @@
 //! Tests of the parts of the nodes, by their public calls alone: copies of messages, frames to the byte with the
-//! fault of each bad field, the mail, a warden's recoveries and truncations, two wardens and three replicas in one run,
-//! and a replica's answers to each kind of envelope, with its records. Nothing stands on this crate.
+//! fault of each bad field, the mail, what each of two wardens and three replicas sends on what comes to it, and the records
+//! of a replica. Nothing stands on this crate.
+//!
+//! `playing` plays rows on the nodes of `nodes`; `bodies` and `sample` are what rows are told with. `stories` and `drops` are
+//! the rows of a replica, `recovering` and `truncating` those of a warden, and `contest` one run of all five.
 #![tactic(auto)]
 
 #[cfg(test)]
@@ -8,23 +11,17 @@ mod bodies;
 #[cfg(test)]
 mod contest;
 #[cfg(test)]
-mod contesting;
-#[cfg(test)]
 mod drops;
-#[cfg(test)]
-mod fixture;
 #[cfg(test)]
 mod frames;
 #[cfg(test)]
 mod keeping_records;
 #[cfg(test)]
-mod mail;
+mod nodes;
 #[cfg(test)]
-mod messages;
+mod playing;
 #[cfg(test)]
 mod recovering;
-#[cfg(test)]
-mod replying;
 #[cfg(test)]
 mod rows;
 #[cfg(test)]

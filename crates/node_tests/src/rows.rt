@@ -3,7 +3,6 @@
 use wire::FrameFault;
 
 /// A frame, its bytes in groups of hexadecimal digits, and the envelope as it is shown.
-#[derive(Clone, Copy)]
 pub(crate) struct Row {
     pub hex: &'static str,
     pub told: &'static str,
@@ -11,7 +10,7 @@ pub(crate) struct Row {
 
 /// Frames to the byte, as the table of `docs/FORMATS.md` has them, with the envelope that each is of: each kind of body
 /// with each option there and not, and the first and the last of each vote, choice, ending, node and number.
-const ROWS: [Row; 24] = [
+pub(crate) static ROWS: [Row; 24] = [
     Row {
         hex: "0101 0101 0201 000000000000000a 00000001 00000000 0000 0000000000000001",
         told: "Envelope { from: Client(1), to: Replica(1), body: Get { exec: Exec { ver: Version { ts: 10, client: 1 }, eid: 0 }, key: Key { table: 0, index: 1 } } }",
@@ -111,7 +110,7 @@ const ROWS: [Row; 24] = [
 ];
 
 /// Bytes with the fault of their first bad field.
-const FAULTS: [(&str, FrameFault); 29] = [
+pub(crate) static FAULTS: [(&str, FrameFault); 29] = [
     ("", FrameFault::Short),
     // the wire version, the kind, and the kind of a node
     ("02", FrameFault::Kind),
@@ -197,13 +196,3 @@ const FAULTS: [(&str, FrameFault); 29] = [
         FrameFault::Order,
     ),
 ];
-
-/// The frames above.
-pub(crate) fn rows() -> &'static [Row] {
-    &ROWS
-}
-
-/// The faults above.
-pub(crate) fn faults() -> &'static [(&'static str, FrameFault)] {
-    &FAULTS
-}

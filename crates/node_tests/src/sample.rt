@@ -1,4 +1,4 @@
-//! Nodes, names and contents that the stories of a replica are told with.
+//! Nodes, names and contents that rows are told with.
 //!
 //! A name such as `E20_1` is execution 1 of the version of time 20, and `WID20_1` its first write.
 
@@ -48,6 +48,10 @@ pub(crate) const V40: Version = Version { ts: 40, client: 1 };
 pub(crate) const CUT16: Version = Version { ts: 16, client: 0 };
 
 pub(crate) const CUT18: Version = Version { ts: 18, client: 0 };
+
+pub(crate) const CUT20: Version = Version { ts: 20, client: 0 };
+
+pub(crate) const CUT21: Version = Version { ts: 21, client: 0 };
 
 pub(crate) const CUT25: Version = Version { ts: 25, client: 0 };
 
@@ -136,6 +140,8 @@ pub(crate) const READS_NEW: Read = Read {
     value: 8,
 };
 
+pub(crate) const WRITES_5: Write = Write { key: X, value: 5 };
+
 pub(crate) const WRITES_6: Write = Write { key: X, value: 6 };
 
 pub(crate) const WRITES_7: Write = Write { key: X, value: 7 };
@@ -148,6 +154,7 @@ pub(crate) const WRITES_9: Write = Write { key: X, value: 9 };
 pub(crate) const TURNS: Made = Made {
     reads: &[READS_FIRST],
     writes: &[WRITES_8],
+    out: &[],
     ending: Ending::Done,
 };
 
@@ -155,6 +162,7 @@ pub(crate) const TURNS: Made = Made {
 pub(crate) const LOOKS: Made = Made {
     reads: &[READS_FIRST],
     writes: &[],
+    out: &[],
     ending: Ending::Done,
 };
 
@@ -162,6 +170,7 @@ pub(crate) const LOOKS: Made = Made {
 pub(crate) const LOOKS_LATER: Made = Made {
     reads: &[READS_NEW],
     writes: &[],
+    out: &[],
     ending: Ending::Done,
 };
 
@@ -169,13 +178,31 @@ pub(crate) const LOOKS_LATER: Made = Made {
 pub(crate) const WRITES: Made = Made {
     reads: &[],
     writes: &[WRITES_7],
+    out: &[],
     ending: Ending::Done,
 };
 
 pub(crate) const NOTHING: Made = Made {
     reads: &[],
     writes: &[],
+    out: &[],
     ending: Ending::Abort,
+};
+
+/// It read the first value, wrote 5, and printed what it read.
+pub(crate) const RAISES: Made = Made {
+    reads: &[READS_FIRST],
+    writes: &[WRITES_5],
+    out: &[4],
+    ending: Ending::Done,
+};
+
+/// It read the first value, and wrote 5 and then 6.
+pub(crate) const TWICE: Made = Made {
+    reads: &[READS_FIRST],
+    writes: &[WRITES_5, WRITES_6],
+    out: &[],
+    ending: Ending::Done,
 };
 
 pub(crate) const PAIR: Accept = Accept {
@@ -187,6 +214,13 @@ pub(crate) const BASE5: BaseEntry = BaseEntry {
     key: X,
     wid: WID5,
     value: 5,
+};
+
+/// The last of two writes.
+pub(crate) const BASE10: BaseEntry = BaseEntry {
+    key: X,
+    wid: WID10_SECOND,
+    value: 6,
 };
 
 pub(crate) const BASE17: BaseEntry = BaseEntry {
