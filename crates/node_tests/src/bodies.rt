@@ -1,12 +1,10 @@
 //! Bodies of envelopes as data of constant size.
 
+use crate::checks::MEMORY;
 use morty_base::{Ending, Exec, Key, List, Version, Wid};
 use msg::{Accept, BaseEntry, Body, Choice, Content, Kept, Read, Vote, Write};
 use std::alloc::Global;
 use std::process::Abort;
-
-/// What is said where memory runs out.
-pub(crate) const MEMORY: &str = "memory";
 
 /// What an execution read, wrote and printed, and how it ended.
 pub(crate) struct Made {

@@ -1,6 +1,8 @@
-//! The records of a replica by their own calls: which Puts are due a Note, and what a cut lets go of.
+//! The records of a replica by their own calls: which Puts are due a Note, and what a cut lets go of. Records are left to the
+//! end of a test's process, and no proof takes them down.
 
-use crate::bodies::{MEMORY, content};
+use crate::bodies::content;
+use crate::checks::{MEMORY, is_equal, is_so};
 use crate::sample::{
     BASE17, CUT18, E10, E12, E15, V10, V20, WID10, WID12, WID17, WRITES, WRITES_7, X,
 };
@@ -11,6 +13,7 @@ use mv_record::Records;
 use protocol::Held;
 use read_path::on_get;
 use std::alloc::Global;
+use std::mem::forget;
 use std::process::Abort;
 
 /// No version is dropped.
@@ -25,8 +28,9 @@ const READER: Exec = Exec {
     eid: 0,
 };
 
-/// In each four versions the third comes first: it is above all before it, and so is the fourth.
-const ORDER: [u64; 4] = [3, 1, 4, 2];
+/// In each four versions the third comes first: it is above all before it, and so is the fourth. So one Note is due
+/// on these, and none on the others.
+const FOUR: [(u64, usize); 4] = [(3, 1), (1, 0), (4, 1), (2, 0)];
 
 // Whom a Note is for, and the write that it tells: unsure, with nothing gone.
 fn told(note: &Envelope2) -> Option<(u32, Version, Wid)> {
@@ -48,66 +52,101 @@ fn notes(rt: &impl Abort, alloc: Global, records: &mut Records, ver: Version, co
     let exec = Exec { ver, eid: 0 };
     records.put(alloc, exec, &[write]).expect(rt, MEMORY);
     let notes = due_notes(alloc, records).expect(rt, MEMORY);
-    let wid = Wid {
+    is_equal(rt, &notes.len(), &count, "the number of Notes");
+    for note in notes.as_slice() {
+        is_equal(
+            rt,
+            &told(note),
+            &Some((9, READER.ver, first_wid(ver))),
+            "a Note",
+        );
+    }
+}
+
+fn first_wid(ver: Version) -> Wid {
+    Wid {
         ver,
         eid: 0,
         seq: 1,
-    };
-    assert_eq!(rt; notes.len(), count, "version {}", ver.ts);
-    for note in notes.as_slice() {
-        assert_eq!(rt; told(note), Some((9, READER.ver, wid)));
+    }
+}
+
+fn notes_of_four(rt: &impl Abort, alloc: Global, records: &mut Records, before: u64) {
+    for (more, count) in &FOUR {
+        let ver = Version {
+            ts: before.saturating_add(*more),
+            client: 1,
+        };
+        notes(rt, alloc, records, ver, *count);
+    }
+}
+
+// Records of x[1], whose reader was told its first value.
+fn watched(rt: &impl Abort, alloc: Global) -> Records {
+    let mut records = Records::new(alloc, List::new(alloc)).expect(rt, MEMORY);
+    let _ = on_get(&mut records, READER, X, NONE).expect(rt, MEMORY);
+    records
+}
+
+fn notes_of_all(rt: &impl Abort, alloc: Global, records: &mut Records) {
+    for i in 0..1_250u64 {
+        notes_of_four(rt, alloc, records, i * 4);
     }
 }
 
 #[test]
 fn one_note_where_a_version_is_the_greatest_so_far(rt: HostRuntime) {
-    let alloc = rt.alloc();
-    let mut records = Records::new(alloc, List::new(alloc)).expect(&rt, MEMORY);
-    let _ = on_get(&mut records, READER, X, NONE).expect(&rt, MEMORY);
-    let mut greatest = 0;
-    for i in 0..5_000usize {
-        let ts = (i / 4 * 4) as u64 + ORDER[i % 4];
-        let ver = Version { ts, client: 1 };
-        notes(&rt, alloc, &mut records, ver, usize::from(ts > greatest));
-        greatest = greatest.max(ts);
-    }
-    assert_eq!(rt; greatest, 5_000);
+    let mut records = watched(&rt, rt.alloc());
+    notes_of_all(&rt, rt.alloc(), &mut records);
+    forget(records);
 }
 
-// There are so many readers, committed contents, contents with a vote and base entries.
-fn has(rt: &impl Abort, alloc: Global, records: &Records, sizes: [usize; 4]) {
+// There are so many readers, committed contents, contents with a vote and base entries, and the writes below 18.0 are
+// held or not.
+fn has(rt: &impl Abort, alloc: Global, records: &Records, sizes: [usize; 4], past: bool) {
     let committed = records.committed_upto(alloc, V20).expect(rt, MEMORY);
     let voted = records.voted_upto(alloc, V20).expect(rt, MEMORY);
     let base = records.base_upto(alloc, V20).expect(rt, MEMORY);
-    assert_eq!(rt; records.reader_count(), sizes[0]);
-    assert_eq!(rt; committed.len(), sizes[1]);
-    assert_eq!(rt; voted.len(), sizes[2]);
-    assert_eq!(rt; base.len(), sizes[3]);
+    let now = [
+        records.reader_count(),
+        committed.len(),
+        voted.len(),
+        base.len(),
+    ];
+    is_equal(rt, &now, &sizes, "sizes");
+    is_equal(rt, &records.holds(X, WID10), &past, "the write of Puts");
+    is_equal(rt, &records.holds(X, WID12), &past, "the committed write");
 }
 
-// Something of each kind stands at or below 18.0, and one reader above it.
-#[test]
-fn a_cut_lets_go_of_the_past(rt: HostRuntime) {
-    let alloc = rt.alloc();
-    let mut records = Records::new(alloc, List::new(alloc)).expect(&rt, MEMORY);
-    let content = content(&rt, alloc, &WRITES);
-    records.put(alloc, E10, &[WRITES_7]).expect(&rt, MEMORY);
-    records.commit(alloc, E12, &content).expect(&rt, MEMORY);
-    records.voted(alloc, E15, &content).expect(&rt, MEMORY);
-    records.read_by(X, V10).expect(&rt, MEMORY);
-    records.read_by(X, V20).expect(&rt, MEMORY);
-    has(&rt, alloc, &records, [2, 1, 1, 0]);
-    assert!(rt; records.holds(X, WID10) && records.holds(X, WID12));
-    records.cut(
-        CUT18,
-        List::from_slice(alloc, &[BASE17]).expect(&rt, MEMORY),
-    );
-    has(&rt, alloc, &records, [1, 0, 0, 1]);
-    assert!(rt; !records.holds(X, WID10) && !records.holds(X, WID12));
+// Something of each kind at or below 18.0, and one reader above it.
+fn filled(rt: &impl Abort, alloc: Global) -> Records {
+    let mut records = Records::new(alloc, List::new(alloc)).expect(rt, MEMORY);
+    let content = content(rt, alloc, &WRITES);
+    assert!(rt; content.writes.len() == 1);
+    records.put(alloc, E10, &[WRITES_7]).expect(rt, MEMORY);
+    records.commit(alloc, E12, &content).expect(rt, MEMORY);
+    records.voted(alloc, E15, &content).expect(rt, MEMORY);
+    records.read_by(X, V10).expect(rt, MEMORY);
+    records.read_by(X, V20).expect(rt, MEMORY);
+    records
+}
+
+fn are_cut(rt: &impl Abort, alloc: Global, records: &mut Records) {
+    let base = List::from_slice(alloc, &[BASE17]).expect(rt, MEMORY);
+    records.cut(CUT18, base);
+    has(rt, alloc, records, [1, 0, 0, 1], false);
     let want = Held {
         wid: WID17,
         value: 6,
         sure: true,
     };
-    assert_eq!(rt; records.latest_below(X, V20), want);
+    is_equal(rt, &records.latest_below(X, V20), &want, "the last value");
+}
+
+#[test]
+fn a_cut_lets_go_of_the_past(rt: HostRuntime) {
+    let mut records = filled(&rt, rt.alloc());
+    has(&rt, rt.alloc(), &records, [2, 1, 1, 0], true);
+    are_cut(&rt, rt.alloc(), &mut records);
+    forget(records);
 }

@@ -3,7 +3,8 @@
 ghost use Rattle.std.specs.Prelude.{IsTrue};
 ghost use Rattle.replica.specs.Limits.{IsWithinLimits};
 
-use crate::bodies::{MEMORY, Said, body};
+use crate::bodies::{Said, body};
+use crate::checks::{MEMORY, is_equal, is_so};
 use crate::sample::X;
 use morty_base::{Exec, List, NodeId, Version};
 use msg::{Body, Choice, Envelope};
@@ -75,6 +76,7 @@ pub(crate) fn fresh_nodes(rt: &impl Abort, alloc: Global) -> Nodes {
 const MOST_WRITES: usize = 4_294_967_295;
 
 // Whether a replica may take it. A base has one entry at most.
+#[tactic(auto, using(crate::proofs::BaseLemmas::short_rises))]
 fn is_within(body: &Body) -> bool
     ensures { IsTrue result → IsWithinLimits body.now }
 {
@@ -193,15 +195,14 @@ pub(crate) fn sent(
         Event::Truncate(w) => truncate(rt, alloc, warden_of(nodes, node), *w, &mut out),
         Event::Deliver(i) => {
             let env = mail.get(*i).expect(rt, "it was sent");
-            assert_eq!(rt; env.to, node);
+            is_equal(rt, &env.to, &node, "the receiver");
             hand(rt, alloc, nodes, env, &mut out);
         }
         Event::Hear(from, said) => {
-            let body = body(rt, alloc, said);
             let env = Envelope {
                 from: *from,
                 to: node,
-                body,
+                body: body(rt, alloc, said),
             };
             hand(rt, alloc, nodes, &env, &mut out);
         }
