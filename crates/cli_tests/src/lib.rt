@@ -3,24 +3,24 @@
 #![tactic(auto)]
 
 #[cfg(test)]
-mod checked;
+mod answers;
 #[cfg(test)]
 mod fixture;
 #[cfg(test)]
 mod generated;
 #[cfg(test)]
-mod linked;
+mod lengths;
 #[cfg(test)]
 mod odd_links;
 #[cfg(test)]
-mod runs;
+mod printed;
 #[cfg(test)]
-mod scripts;
+mod refusals;
+#[cfg(test)]
+mod rows;
+#[cfg(test)]
+mod runs;
 #[cfg(test)]
 mod serials;
 #[cfg(test)]
-mod tests;
-#[cfg(test)]
 mod texts;
-#[cfg(test)]
-mod traced;

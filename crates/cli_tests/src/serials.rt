@@ -1,63 +1,57 @@
-use crate::fixture::{BAD_COMMAND, SCRIPT, SOUND, TWO, call, call_on};
+//! Serial runs, and runs whose reports are compared with them.
+
+use crate::fixture::{EACH_SLOT, Handed, SOUND, TWO, call, listed};
+use crate::rows::Taken::All;
+use crate::rows::{RUN, Row, UNRUN, Words};
 use morty_base::{List, NoMemory};
 use std::alloc::Global;
 use std::test::Fail;
 
-type Words = &'static [&'static [u8]];
+/// The serial run of two clients' transactions.
+const SERIAL: Row = Row {
+    shows: "transactions run by version",
+    words: &[b"serial"],
+    text: TWO,
+    taken: All(
+        b"serial 10.1 txn 1.1 end done\n\
+        read x[1] 4\n\
+        out 4\n\
+        serial 20.2 txn 2.1 end done\n\
+        read x[1] 5\n\
+        out 5\n\
+        value x[1] 6\n",
+    ),
+    links: Some(0),
+    ..UNRUN
+};
 
-const SERIAL: &[u8] =
-    b"serial 10.1 txn 1.1 end done\nread x[1] 4\nout 4\nserial 20.2 txn 2.1 end done\nread x[1] 5\nout 5\nvalue x[1] 6\n";
-
-static SAME: [Words; 3] = [
-    &[b"serial"],
-    &[b"serial", b"10.1:1", b"20.2:1"],
-    &[b"serial", b"020.2:1", b"10.01:01"],
+pub static SERIALS: [Row; 4] = [
+    SERIAL,
+    Row {
+        shows: "they may be named",
+        words: &[b"serial", b"10.1:1", b"20.2:1"],
+        ..SERIAL
+    },
+    Row {
+        shows: "in any order, and with leading zeros",
+        words: &[b"serial", b"020.2:1", b"10.01:01"],
+        ..SERIAL
+    },
+    Row {
+        shows: "and at versions that no run gives",
+        words: &[b"serial", b"9223372036854775807.1:1", b"5.2:1"],
+        taken: All(
+            b"serial 5.2 txn 2.1 end done\n\
+            read x[1] 4\n\
+            out 4\n\
+            serial 9223372036854775807.1 txn 1.1 end done\n\
+            read x[1] 5\n\
+            out 5\n\
+            value x[1] 6\n",
+        ),
+        ..SERIAL
+    },
 ];
-
-#[test]
-fn transactions_run_by_version(rt: HostRuntime) -> Result<(), Fail> {
-    for words in SAME {
-        let answer = call(rt.alloc(), words, TWO, SOUND)?;
-        assert_eq!(rt; answer.status, 0);
-        assert_eq!(rt; answer.taken.as_slice(), SERIAL);
-        assert_eq!(rt; answer.links, 0);
-    }
-    let words = [
-        b"serial".as_slice(),
-        b"9223372036854775807.1:1".as_slice(),
-        b"5.2:1".as_slice(),
-    ];
-    let answer = call(rt.alloc(), words.as_slice(), TWO, SOUND)?;
-    assert_eq!(rt;
-        answer.taken.as_slice(),
-        b"serial 5.2 txn 2.1 end done\nread x[1] 4\nout 4\nserial 9223372036854775807.1 txn 1.1 end done\nread x[1] 5\nout 5\nvalue x[1] 6\n".as_slice()
-    );
-    Ok(())
-}
-
-/// Words that name no transaction of the script, say no transaction, are out of range, or say a version twice.
-static BAD: [Words; 10] = [
-    &[b"serial", b"10.1:2"],
-    &[b"serial", b"10.2:1"],
-    &[b"serial", b"10.1"],
-    &[b"serial", b"10:1"],
-    &[b"serial", b"10.:1"],
-    &[b"serial", b"0.1:1"],
-    &[b"serial", b"9223372036854775808.1:1"],
-    &[b"serial", b"10.1:4294967296"],
-    &[b"serial", b"10.1:1", b"10.1:1"],
-    &[b"serial", b"10.1:1:1"],
-];
-
-#[test]
-fn other_transactions_are_refused(rt: HostRuntime) -> Result<(), Fail> {
-    for words in BAD {
-        let answer = call(rt.alloc(), words, SCRIPT, SOUND)?;
-        assert_eq!(rt; answer.status, 2);
-        assert_eq!(rt; answer.taken.as_slice(), BAD_COMMAND);
-    }
-    Ok(())
-}
 
 /// Adds the head of a commit block as a serial run has it: without try and execution.
 fn push_head(text: &mut List<u8>, line: &[u8]) -> Result<(), NoMemory> {
@@ -120,37 +114,83 @@ fn words_of(alloc: Global, report: &[u8]) -> Result<List<List<u8>>, NoMemory> {
 /// Whether what was committed is what the serial run of its transactions at its versions gives.
 pub fn is_serial(alloc: Global, script: &[u8], report: &[u8]) -> Result<bool, NoMemory> {
     let words = words_of(alloc, report)?;
-    let serial = call_on(alloc, words.as_slice(), script, SOUND, Vec::new(alloc))?;
+    let serial = call(alloc, words.as_slice(), script, &SOUND, &Handed::Slots(0))?;
     let committed = as_serial(alloc, report)?;
     Ok(serial.status == 0 && serial.taken.as_slice() == committed.as_slice())
 }
 
-// A large run over a seeded net, with a client that is stopped.
-#[test]
-fn a_large_run_is_serial(rt: HostRuntime) -> Result<(), Fail> {
-    let alloc = rt.alloc();
-    let words = [b"gen".as_slice(), b"7".as_slice(), b"160".as_slice()];
-    let script = call(alloc, words.as_slice(), b"", SOUND)?;
-    let run = call(alloc, &[b"run".as_slice()], script.taken.as_slice(), SOUND)?;
-    assert_eq!(rt; run.status, 0);
-    assert!(rt; is_serial(alloc, script.taken.as_slice(), run.taken.as_slice())?);
-    Ok(())
+/// A script, or the words that generate it; the links of its run, and how its report begins.
+struct Compared {
+    shows: &'static str,
+    generated: Option<Words>,
+    text: &'static [u8],
+    handed: Handed,
+    front: &'static [u8],
 }
 
-// A client that aborts its attempts at a missed write commits the next try, a gap later.
+static COMPARED: [Compared; 3] = [
+    Compared {
+        shows: "a large run over a seeded net, with a client that is stopped",
+        generated: Some(&[b"gen", b"7", b"160"]),
+        text: b"",
+        handed: EACH_SLOT,
+        front: b"",
+    },
+    Compared {
+        shows: "a client that aborts its attempts at a missed write commits the next try, a gap later",
+        generated: None,
+        text: b"morty 1 replicas 1 gap 20 policy abort table x first x[1] 4 \
+            program inc { read a x[1]; write x[1] a + 1; print a } \
+            client 1 { inc at 10 } client 2 { inc at 20 } end",
+        handed: EACH_SLOT,
+        front: b"commit 10.1 txn 1.1 try 1 exec 0 end done\n\
+            read x[1] 4\n\
+            out 4\n\
+            commit 40.2 txn 2.1 try 2 exec 0 end done\n\
+            read x[1] 5\n",
+    },
+    Compared {
+        shows: "the newest envelopes go first and twice",
+        generated: None,
+        text: TWO,
+        handed: Handed::NewestTwice,
+        front: b"commit ",
+    },
+];
+
+/// The script that is compared.
+fn script_of(alloc: Global, row: &Compared) -> Result<List<u8>, NoMemory> {
+    match row.generated {
+        Some(words) => {
+            let words = listed(alloc, words)?;
+            Ok(call(alloc, words.as_slice(), b"", &SOUND, &EACH_SLOT)?.taken)
+        }
+        None => List::from_slice(alloc, row.text),
+    }
+}
+
+// Whatever the links do, what was committed is a serial run.
 #[test]
-fn a_second_try_is_serial(rt: HostRuntime) -> Result<(), Fail> {
+fn reports_are_serial(rt: HostRuntime) -> Result<(), Fail> {
     let alloc = rt.alloc();
-    let script: &[u8] =
-        b"morty 1 replicas 1 gap 20 policy abort table x first x[1] 4 program inc { read a x[1]; write x[1] a + 1; print a } client 1 { inc at 10 } client 2 { inc at 20 } end";
-    let run = call(alloc, &[b"run".as_slice()], script, SOUND)?;
-    assert_eq!(rt; run.status, 0);
-    let text = run.taken.as_slice();
-    assert!(rt;
-        text.starts_with(
-            b"commit 10.1 txn 1.1 try 1 exec 0 end done\nread x[1] 4\nout 4\ncommit 40.2 txn 2.1 try 2 exec 0 end done\nread x[1] 5\n"
-        )
-    );
-    assert!(rt; is_serial(alloc, script, text)?);
+    let run = listed(alloc, RUN.words)?;
+    for row in &COMPARED {
+        let script = script_of(alloc, row)?;
+        let answer = call(
+            alloc,
+            run.as_slice(),
+            script.as_slice(),
+            &SOUND,
+            &row.handed,
+        )?;
+        let report = answer.taken.as_slice();
+        assert_eq!(rt; answer.status, 0, "{}", row.shows);
+        assert!(rt; report.starts_with(row.front), "{}", row.shows);
+        assert!(rt;
+            is_serial(alloc, script.as_slice(), report)?,
+            "{}",
+            row.shows
+        );
+    }
     Ok(())
 }
