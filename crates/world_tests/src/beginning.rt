@@ -10,7 +10,7 @@ use msg::Pick::{Deliver, Go, Hurry, Idle, Recover, Truncate};
 pub(crate) const RAISES: &[u8] = b"morty 1 replicas 1 table x first x[1] 4
 program inc { read a x[1]; write x[1] a + 1; print a } client 1 { inc at 10 } end";
 
-static FIRST: [Row; 30] = [
+pub(crate) static FIRST: [Row; 30] = [
     Shows(0, "0 events, fresh [], old [], go"),
     Shows(1, "0 events, fresh [], old []"),
     Still(Picked(CLIENT1, Idle)),
@@ -59,7 +59,3 @@ static FIRST: [Row; 30] = [
     Still(Picked(CLIENT1, Hurry)),
     Shows(0, "9 events, fresh [], old [1, 4]"),
 ];
-
-pub(crate) fn first() -> &'static [Row] {
-    &FIRST
-}

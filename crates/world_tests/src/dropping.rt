@@ -13,7 +13,7 @@ program inc { read a x[1]; write x[1] a + 1; print a } program look { read c x[1
 client 1 { inc at 10 } client 2 { look at 15 } end";
 
 // The execution that is voted on and undecided is recovered, and its write is the base.
-static DROPS: [Row; 21] = [
+pub(crate) static DROPS: [Row; 21] = [
     Still(Picked(WARDEN1, Truncate(CUT0))),
     Moves(
         Picked(WARDEN1, Truncate(CUT20)),
@@ -97,7 +97,7 @@ static DROPS: [Row; 21] = [
 ];
 
 // A read below the dropped version is too late, and one above it is answered from the base.
-static TOO_OLD: [Row; 8] = [
+pub(crate) static TOO_OLD: [Row; 8] = [
     Moves(Picked(CLIENT2, Go), &[]),
     Moves(
         Ran(2),
@@ -134,11 +134,3 @@ static TOO_OLD: [Row; 8] = [
         &["44 Replica(1) > Client(2): note 25.2 x[1] 10.1/0/1 5 sure"],
     ),
 ];
-
-pub(crate) fn drops() -> &'static [Row] {
-    &DROPS
-}
-
-pub(crate) fn too_old() -> &'static [Row] {
-    &TOO_OLD
-}

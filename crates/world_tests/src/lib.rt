@@ -3,11 +3,13 @@
 //! or elsewhere and then given back. Nothing stands on this crate.
 //!
 //! `telling` tells envelopes and menus as lines, `playing` drives a world row by row, and `names` has what rows are told
-//! with. `beginning`, `voting`, `missing`, `recovering` and `dropping` are the runs, as data, and `stories` plays them.
+//! with; `checks` compares. `beginning`, `voting`, `missing`, `recovering` and `dropping` are the runs, as data, and `stories` plays them.
 #![tactic(auto)]
 
 #[cfg(test)]
 mod beginning;
+#[cfg(test)]
+mod checks;
 #[cfg(test)]
 mod dropping;
 #[cfg(test)]

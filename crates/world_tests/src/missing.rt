@@ -13,7 +13,7 @@ program two { read a x[1]; read b y[1]; write x[1] a + b; print a }
 client 1 { half at 10 } client 2 { two at 20 } end";
 
 // The write comes once it is read past, and execution 1 begins at that read.
-static FOLLOWED: [Row; 13] = [
+pub(crate) static FOLLOWED: [Row; 13] = [
     Moves(Picked(CLIENT1, Go), &[]),
     Moves(
         Ran(1),
@@ -55,7 +55,7 @@ program look { read c y[1]; print c }
 client 1 { set at 10 } client 2 { branch at 20 } client 3 { look at 30 } end";
 
 // A write vanishes since its writer has missed another, and runs again.
-static BRANCHES: [Row; 41] = [
+pub(crate) static BRANCHES: [Row; 41] = [
     Moves(Picked(CLIENT2, Go), &[]),
     Moves(Ran(2), &["0 Client(2) > Replica(1): get 20.2/0 x[1]"]),
     Moves(
@@ -207,7 +207,7 @@ static TOLD: [Row; 7] = [
 ];
 
 // It ends, and prepares nothing.
-static UNSURE: [Row; 1] = [Moves(Ran(2), &[])];
+pub(crate) static UNSURE: [Row; 1] = [Moves(Ran(2), &[])];
 
 // Client 1 is stopped, and the warden abandons what it left, so that the write is gone. Client 2 follows.
 static VANISHES: [Row; 11] = [
@@ -267,20 +267,8 @@ static AGAIN: [Row; 4] = [
     Moves(Picked(REPLICA1, Deliver(14)), &[]),
 ];
 
-pub(crate) fn followed() -> &'static [Row] {
-    &FOLLOWED
-}
-
-pub(crate) fn branches() -> &'static [Row] {
-    &BRANCHES
-}
-
 pub(crate) fn told() -> &'static [Row] {
     &TOLD
-}
-
-pub(crate) fn unsure() -> &'static [Row] {
-    &UNSURE
 }
 
 pub(crate) fn vanishes() -> &'static [Row] {

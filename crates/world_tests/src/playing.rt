@@ -1,21 +1,18 @@
 //! A world that is driven row by row.
 
-ghost use Rattle.std.specs.Prelude.{OnOk, IfOk};
 ghost use Rattle.world.specs.World.{IsUsable};
 ghost use Rattle.world_tests.specs.Playing.{IsWorldOf, IsWorkOf};
 
+use crate::checks::{MEMORY, is_equal};
 use crate::telling::{envelope_line, menu_line};
 use continuation::Done;
-use morty_base::NoMemory;
 use msg::Event;
 use net_core::{Machine, RanStep, StepOut};
 use std::alloc::Global;
 use std::process::Abort;
-use std::test::Fail;
 use world::{Origin, World};
 
 /// What happens, and what is seen of it.
-#[derive(Clone, Copy)]
 pub(crate) enum Row {
     /// An event moves the world, and this is sent.
     Moves(Event, &'static [&'static str]),
@@ -33,15 +30,23 @@ pub(crate) enum Way {
 }
 
 // What all links are shown, and how much was sent.
-fn whole(alloc: Global, world: &World) -> Result<String, NoMemory>
+fn whole(rt: &impl Abort, alloc: Global, world: &World) -> String
     requires { IsUsable world.now }
 {
-    let mut text = format!(in alloc; "{} sent", world.mail().sent())?;
+    let mut text = format!(in alloc; "{} sent", world.mail().sent()).expect(rt, MEMORY);
     for slot in 0..world.nodes() {
-        let line = menu_line(alloc, &world.menu(slot))?;
-        text.push_str(line.as_str())?;
+        let line = menu_line(rt, alloc, &world.menu(slot));
+        text.push_str(line.as_str()).expect(rt, MEMORY);
     }
-    Ok(text)
+    text
+}
+
+// Nothing changed.
+fn is_whole(rt: &impl Abort, alloc: Global, world: &World, before: &str)
+    requires { IsUsable world.now }
+{
+    let after = whole(rt, alloc, world);
+    is_equal(rt, &after.as_str(), &before, "nothing changes");
 }
 
 /// What another does of the pending job of a slot.
@@ -51,16 +56,17 @@ pub(crate) fn work(
     origin: &Origin,
     world: &World,
     slot: u32,
-) -> Result<Done, Fail>
+) -> Done
     requires { IsWorldOf origin.now world.now }
-    ensures { IfOk result (IsWorkOf origin.now) }
+    ensures { IsWorkOf origin.now result }
 {
     assert!(rt; slot < world.nodes());
     let _node = world.node(slot);
-    let Some(job) = world.job(alloc, slot)? else {
-        panic!(rt; "no job is pending");
-    };
-    Ok(World::work(alloc, &origin.kit, job)?)
+    let job = world
+        .job(alloc, slot)
+        .expect(rt, MEMORY)
+        .expect(rt, "a job is pending");
+    World::work(alloc, &origin.kit, job).expect(rt, MEMORY)
 }
 
 // Gives back what was done.
@@ -71,14 +77,14 @@ fn give(
     world: &mut World,
     slot: u32,
     done: &Done,
-) -> Result<RanStep, Fail>
+) -> RanStep
     requires world { IsWorldOf origin.now world.old }
     requires done { IsWorkOf origin.now done.now }
-    ensures { OnOk result (IsWorldOf origin.now world.new) }
+    ensures { IsWorldOf origin.now world.new }
 {
     assert!(rt; slot < world.nodes());
     let _node = world.node(slot);
-    Ok(world.give(alloc, slot, done)?)
+    world.give(alloc, slot, done).expect(rt, MEMORY)
 }
 
 /// What was done is of no pending job, and changes nothing.
@@ -89,47 +95,34 @@ pub(crate) fn is_stale(
     world: &mut World,
     slot: u32,
     done: &Done,
-) -> Result<(), Fail>
+)
     requires world { IsWorldOf origin.now world.old }
     requires done { IsWorkOf origin.now done.now }
-    ensures { OnOk result (IsWorldOf origin.now world.new) }
+    ensures { IsWorldOf origin.now world.new }
 {
-    let before = whole(alloc, world)?;
-    let out = give(rt, alloc, origin, world, slot, done)?;
-    assert_eq!(rt; out, RanStep::Stale);
-    let after = whole(alloc, world)?;
-    assert_eq!(rt; after.as_str(), before.as_str());
-    Ok(())
+    let before = whole(rt, alloc, world);
+    let out = give(rt, alloc, origin, world, slot, done);
+    is_equal(rt, &out, &RanStep::Stale, "it is stale");
+    is_whole(rt, alloc, world, before.as_str());
 }
 
 // The pending job of a client is run elsewhere and given back, and then given back once more.
-fn run_elsewhere(
-    rt: &impl Abort,
-    alloc: Global,
-    origin: &Origin,
-    world: &mut World,
-    client: u32,
-) -> Result<(), Fail>
+fn run_elsewhere(rt: &impl Abort, alloc: Global, origin: &Origin, world: &mut World, client: u32)
     requires { IsWorldOf origin.now world.old }
-    ensures { OnOk result (IsWorldOf origin.now world.new) }
+    ensures { IsWorldOf origin.now world.new }
 {
     let slot = client.saturating_sub(1);
-    let done = work(rt, alloc, origin, world, slot)?;
-    let out = give(rt, alloc, origin, world, slot, &done)?;
-    assert_eq!(rt; out, RanStep::Used);
-    is_stale(rt, alloc, origin, world, slot, &done)
+    let done = work(rt, alloc, origin, world, slot);
+    let out = give(rt, alloc, origin, world, slot, &done);
+    is_equal(rt, &out, &RanStep::Used, "it is used");
+    is_stale(rt, alloc, origin, world, slot, &done);
 }
 
-fn step(
-    alloc: Global,
-    origin: &Origin,
-    world: &mut World,
-    event: Event,
-) -> Result<StepOut, NoMemory>
+fn step(rt: &impl Abort, alloc: Global, origin: &Origin, world: &mut World, event: Event) -> StepOut
     requires { IsWorldOf origin.now world.old }
-    ensures { OnOk result (IsWorldOf origin.now world.new) }
+    ensures { IsWorldOf origin.now world.new }
 {
-    world.step(alloc, event)
+    world.step(alloc, event).expect(rt, MEMORY)
 }
 
 fn happens(
@@ -139,86 +132,71 @@ fn happens(
     world: &mut World,
     way: Way,
     event: Event,
-) -> Result<(), Fail>
+)
     requires { IsWorldOf origin.now world.old }
-    ensures { OnOk result (IsWorldOf origin.now world.new) }
+    ensures { IsWorldOf origin.now world.new }
 {
     if let (Way::Elsewhere, Event::Ran(client)) = (way, event) {
-        return run_elsewhere(rt, alloc, origin, world, client);
+        run_elsewhere(rt, alloc, origin, world, client);
+    } else {
+        let out = step(rt, alloc, origin, world, event);
+        is_equal(
+            rt,
+            &(event, out),
+            &(event, StepOut::Moved),
+            "an event happens",
+        );
     }
-    let out = step(alloc, origin, world, event)?;
-    assert_eq!(rt; out, StepOut::Moved, "at {event:?}");
-    Ok(())
 }
 
 // From this number on just this was sent.
-fn sends(
-    rt: &impl Abort,
-    alloc: Global,
-    world: &World,
-    first: u64,
-    lines: &[&str],
-) -> Result<(), Fail> {
+fn sends(rt: &impl Abort, alloc: Global, world: &World, first: u64, lines: &[&str]) {
     let mut number = first;
     for line in lines {
-        let Some(env) = world.mail().get(number)? else {
-            panic!(rt; "{line:?} was not sent");
-        };
-        let told = envelope_line(alloc, number, &env)?;
-        assert_eq!(rt; told.as_str(), *line);
+        let env = world.mail().get(number).expect(rt, MEMORY).expect(rt, line);
+        let told = envelope_line(rt, alloc, number, &env);
+        is_equal(rt, &told.as_str(), line, "what is sent");
         number = number.saturating_add(1);
     }
-    assert_eq!(rt; world.mail().sent(), number);
-    Ok(())
+    is_equal(rt, &world.mail().sent(), &number, "how much is sent");
 }
 
-fn stays(
-    rt: &impl Abort,
-    alloc: Global,
-    origin: &Origin,
-    world: &mut World,
-    event: Event,
-) -> Result<(), Fail>
+fn stays(rt: &impl Abort, alloc: Global, origin: &Origin, world: &mut World, event: Event)
     requires { IsWorldOf origin.now world.old }
-    ensures { OnOk result (IsWorldOf origin.now world.new) }
+    ensures { IsWorldOf origin.now world.new }
 {
-    let before = whole(alloc, world)?;
-    let out = step(alloc, origin, world, event)?;
-    assert_eq!(rt; out, StepOut::Idle, "at {event:?}");
-    let after = whole(alloc, world)?;
-    assert_eq!(rt; after.as_str(), before.as_str(), "at {event:?}");
-    Ok(())
+    let before = whole(rt, alloc, world);
+    let out = step(rt, alloc, origin, world, event);
+    is_equal(
+        rt,
+        &(event, out),
+        &(event, StepOut::Idle),
+        "an event can't happen",
+    );
+    is_whole(rt, alloc, world, before.as_str());
 }
 
-fn shows(rt: &impl Abort, alloc: Global, world: &World, slot: u32, line: &str) -> Result<(), Fail>
+fn shows(rt: &impl Abort, alloc: Global, world: &World, slot: u32, line: &str)
     requires { IsUsable world.now }
 {
     assert!(rt; slot < world.nodes());
-    let told = menu_line(alloc, &world.menu(slot))?;
-    assert_eq!(rt; told.as_str(), line, "at slot {slot}");
-    Ok(())
+    let told = menu_line(rt, alloc, &world.menu(slot));
+    is_equal(rt, &told.as_str(), &line, "what a link is shown");
 }
 
 // One row.
-fn holds(
-    rt: &impl Abort,
-    alloc: Global,
-    origin: &Origin,
-    world: &mut World,
-    way: Way,
-    row: Row,
-) -> Result<(), Fail>
+fn holds(rt: &impl Abort, alloc: Global, origin: &Origin, world: &mut World, way: Way, row: &Row)
     requires { IsWorldOf origin.now world.old }
-    ensures { OnOk result (IsWorldOf origin.now world.new) }
+    ensures { IsWorldOf origin.now world.new }
 {
     match row {
         Row::Moves(event, lines) => {
             let first = world.mail().sent();
-            happens(rt, alloc, origin, world, way, event)?;
-            sends(rt, alloc, world, first, lines)
+            happens(rt, alloc, origin, world, way, *event);
+            sends(rt, alloc, world, first, lines);
         }
-        Row::Still(event) => stays(rt, alloc, origin, world, event),
-        Row::Shows(slot, line) => shows(rt, alloc, world, slot, line),
+        Row::Still(event) => stays(rt, alloc, origin, world, *event),
+        Row::Shows(slot, line) => shows(rt, alloc, world, *slot, line),
     }
 }
 
@@ -230,12 +208,11 @@ pub(crate) fn play(
     world: &mut World,
     way: Way,
     rows: &[Row],
-) -> Result<(), Fail>
+)
     requires { IsWorldOf origin.now world.old }
-    ensures { OnOk result (IsWorldOf origin.now world.new) }
+    ensures { IsWorldOf origin.now world.new }
 {
     for row in rows {
-        holds(rt, alloc, origin, world, way, *row)?;
+        holds(rt, alloc, origin, world, way, row);
     }
-    Ok(())
 }

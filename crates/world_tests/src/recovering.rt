@@ -11,7 +11,7 @@ pub(crate) const RAISES_BESIDE_WARDENS: &[u8] = b"morty 1 replicas 3 wardens 2 t
 program inc { read a x[1]; write x[1] a + 1; print a } client 1 { inc at 10 } end";
 
 // Replicas 1 and 2 vote Commit, and the client has no vote yet.
-static TWO_VOTES: [Row; 7] = [
+pub(crate) static TWO_VOTES: [Row; 7] = [
     Moves(Picked(CLIENT1, Go), &[]),
     Moves(
         Ran(1),
@@ -48,7 +48,7 @@ static TWO_VOTES: [Row; 7] = [
 ];
 
 // Warden 1 proposes in view 1, which replica 1 alone accepts; warden 2 proposes the same in view 2, and decides it.
-static CONTEST: [Row; 23] = [
+pub(crate) static CONTEST: [Row; 23] = [
     Shows(4, "7 events, fresh [], old []"),
     Moves(Picked(CLIENT1, Stop), &[]),
     // a stopped node takes nothing more, and wardens are shown what it left
@@ -141,7 +141,7 @@ static CONTEST: [Row; 23] = [
 ];
 
 // A warden that hears of a replica without a vote proposes Abandon.
-static ABANDONS: [Row; 7] = [
+pub(crate) static ABANDONS: [Row; 7] = [
     Moves(Picked(CLIENT1, Stop), &[]),
     Moves(
         Picked(WARDEN1, Recover(E10)),
@@ -173,15 +173,3 @@ static ABANDONS: [Row; 7] = [
     // replica 3 promised view 1, and votes no more
     Moves(Picked(REPLICA3, Deliver(9)), &[]),
 ];
-
-pub(crate) fn two_votes() -> &'static [Row] {
-    &TWO_VOTES
-}
-
-pub(crate) fn contest() -> &'static [Row] {
-    &CONTEST
-}
-
-pub(crate) fn abandons() -> &'static [Row] {
-    &ABANDONS
-}

@@ -1,232 +1,217 @@
 //! Runs, row by row, and what is reported of them.
 
-ghost use Rattle.std.specs.Prelude.{OnOk, IfOk};
 ghost use Rattle.world.specs.Origin.{IsOrigin};
 ghost use Rattle.world.specs.World.{IsUsable};
 ghost use Rattle.world_tests.specs.Playing.{IsWorldOf};
 
-use crate::beginning::{RAISES, first};
-use crate::dropping::{RAISES_AND_LOOKS, drops, too_old};
+use crate::beginning::{FIRST, RAISES};
+use crate::checks::{MEMORY, is_equal};
+use crate::dropping::{DROPS, RAISES_AND_LOOKS, TOO_OLD};
 use crate::missing::{
-    WRITES_AND_ADDS, WRITES_AND_BRANCHES, WRITES_AND_STOPS, again, branches, followed, told,
-    unsure, vanishes,
+    BRANCHES, FOLLOWED, UNSURE, WRITES_AND_ADDS, WRITES_AND_BRANCHES, WRITES_AND_STOPS, again,
+    told, vanishes,
 };
 use crate::playing::{Row, Way, is_stale, play, work};
-use crate::recovering::{RAISES_BESIDE_WARDENS, abandons, contest, two_votes};
-use crate::voting::{LOOKS, WRITES_AND_LOOKS, hurried, missed};
+use crate::recovering::{ABANDONS, CONTEST, RAISES_BESIDE_WARDENS, TWO_VOTES};
+use crate::voting::{HURRIED, LOOKS, MISSED, WRITES_AND_LOOKS};
 use morty_base::Ended;
 use net_core::Machine;
 use report::report_text;
 use script::{read_script, said_is_sayable};
 use std::alloc::Global;
+use std::mem::forget;
 use std::process::Abort;
-use std::test::Fail;
 use world::{Origin, World, kit};
 
 // What the script's world is made of.
-fn origin(rt: &impl Abort, alloc: Global, script: &[u8]) -> Result<Origin, Fail>
-    ensures { IfOk result IsOrigin }
+fn origin(rt: &impl Abort, alloc: Global, script: &[u8]) -> Origin
+    ensures { IsOrigin result }
 {
     said_is_sayable();
     assert!(rt; script.len() < 4000);
-    let Ok(setup) = read_script(alloc, script) else {
-        panic!(rt; "no script was read");
-    };
-    let kit = kit(alloc, &setup)?;
-    Ok(Origin { setup, kit })
+    let setup = read_script(alloc, script).expect(rt, "a script");
+    let kit = kit(alloc, &setup).expect(rt, MEMORY);
+    Origin { setup, kit }
 }
 
-fn begin(alloc: Global, origin: &Origin) -> Result<World, Fail>
+fn begin(rt: &impl Abort, alloc: Global, origin: &Origin) -> World
     requires { IsOrigin origin.now }
-    ensures { IfOk result (IsWorldOf origin.now) }
+    ensures { IsWorldOf origin.now result }
 {
-    Ok(World::new(alloc, &origin.setup, &origin.kit)?)
+    World::new(alloc, &origin.setup, &origin.kit).expect(rt, MEMORY)
 }
 
 // What is reported, as if the nodes were out of turns.
-fn reports(
-    rt: &impl Abort,
-    alloc: Global,
-    origin: &Origin,
-    world: &World,
-    lines: &[u8],
-) -> Result<(), Fail>
+fn reports(rt: &impl Abort, alloc: Global, origin: &Origin, world: &World, lines: &[u8])
     requires { IsUsable world.now }
 {
-    let rows = world.rows(alloc)?;
-    let text = report_text(alloc, origin.setup.tables.as_slice(), &rows, Ended::Spent)?;
-    assert_eq!(rt; text.as_slice(), lines);
-    Ok(())
+    let rows = world.rows(alloc).expect(rt, MEMORY);
+    let tables = origin.setup.tables.as_slice();
+    let text = report_text(alloc, tables, &rows, Ended::Spent).expect(rt, MEMORY);
+    is_equal(rt, &text.as_slice(), &lines, "what is reported");
 }
 
 // The parts of a run one after another, and its report.
 fn tell_parts(
     rt: &impl Abort,
     alloc: Global,
-    way: Way,
     origin: &Origin,
     world: &mut World,
+    way: Way,
     parts: &[&[Row]],
     lines: &[u8],
-) -> Result<(), Fail>
+)
     requires { IsWorldOf origin.now world.old }
 {
     for rows in parts {
-        play(rt, alloc, origin, world, way, rows)?;
+        play(rt, alloc, origin, world, way, rows);
     }
-    reports(rt, alloc, origin, world, lines)
+    reports(rt, alloc, origin, world, lines);
 }
 
-fn tell(
-    rt: &impl Abort,
-    alloc: Global,
-    way: Way,
-    script: &[u8],
-    parts: &[&[Row]],
-    lines: &[u8],
-) -> Result<(), Fail> {
-    let origin = origin(rt, alloc, script)?;
-    let mut world = begin(alloc, &origin)?;
-    tell_parts(rt, alloc, way, &origin, &mut world, parts, lines)
+// A test is a process of its own, so a world is left to its end, and no proof takes it down.
+fn tell(rt: &impl Abort, alloc: Global, way: Way, script: &[u8], parts: &[&[Row]], lines: &[u8]) {
+    let origin = origin(rt, alloc, script);
+    let mut world = begin(rt, alloc, &origin);
+    tell_parts(rt, alloc, &origin, &mut world, way, parts, lines);
+    forget(world);
+    forget(origin);
 }
 
 // Runs that commit, or abort, by votes alone.
-fn tell_votes(rt: &impl Abort, alloc: Global, way: Way) -> Result<(), Fail> {
+fn tell_votes(rt: &impl Abort, alloc: Global, way: Way) {
     tell(
         rt,
         alloc,
         way,
         RAISES,
-        &[first()],
+        &[&FIRST],
         b"commit 10.1 txn 1.1 try 1 exec 0 end done\nread x[1] 4\nout 4\nvalue x[1] 5\nended spent events 9\n",
-    )?;
+    );
     tell(
         rt,
         alloc,
         way,
         WRITES_AND_LOOKS,
-        &[missed()],
+        &[&MISSED],
         b"commit 20.2 txn 2.1 try 1 exec 0 end done\nread x[1] 0\nout 0\nnone 1.1 aborted\nended spent events 13\n",
-    )?;
+    );
     tell(
         rt,
         alloc,
         way,
         LOOKS,
-        &[hurried()],
+        &[&HURRIED],
         b"commit 20.1 txn 1.1 try 1 exec 0 end done\nread x[1] 0\nout 0\nended spent events 14\n",
-    )
+    );
 }
 
 // Runs in which a read misses a write, or sees one that vanishes.
-fn tell_misses(rt: &impl Abort, alloc: Global, way: Way) -> Result<(), Fail> {
+fn tell_misses(rt: &impl Abort, alloc: Global, way: Way) {
     tell(
         rt,
         alloc,
         way,
         WRITES_AND_ADDS,
-        &[followed()],
+        &[&FOLLOWED],
         b"none 1.1 open\nnone 2.1 open\nended spent events 10\n",
-    )?;
+    );
     tell(
         rt,
         alloc,
         way,
         WRITES_AND_BRANCHES,
-        &[branches()],
+        &[&BRANCHES],
         b"commit 10.1 txn 1.1 try 1 exec 0 end done
 commit 20.2 txn 2.1 try 1 exec 1 end done\nread x[1] 1\nread z[1] 0\nread z[2] 0\nout 1
 commit 30.3 txn 3.1 try 1 exec 1 end done\nread y[1] 0\nout 0
 value x[1] 1\nvalue y[2] 9\nended spent events 41\n",
-    )?;
+    );
     tell(
         rt,
         alloc,
         way,
         WRITES_AND_STOPS,
-        &[told(), unsure(), vanishes(), again()],
+        &[told(), &UNSURE, vanishes(), again()],
         b"commit 20.2 txn 2.1 try 1 exec 1 end done\nread x[1] 0\nout 0\nnone 1.1 open\nended spent events 20\n",
-    )
+    );
 }
 
 // Runs in which wardens recover and truncate.
-fn tell_recoveries(rt: &impl Abort, alloc: Global, way: Way) -> Result<(), Fail> {
+fn tell_recoveries(rt: &impl Abort, alloc: Global, way: Way) {
+    let voted: &[Row] = &TWO_VOTES;
     tell(
         rt,
         alloc,
         way,
         RAISES_BESIDE_WARDENS,
-        &[two_votes(), contest()],
+        &[voted, &CONTEST],
         b"commit 10.1 txn 1.1 try 1 exec 0 end done\nread x[1] 4\nout 4\nvalue x[1] 5\nended spent events 23\n",
-    )?;
+    );
     tell(
         rt,
         alloc,
         way,
         RAISES_BESIDE_WARDENS,
-        &[two_votes(), abandons()],
+        &[voted, &ABANDONS],
         b"none 1.1 open\nvalue x[1] 4\nended spent events 14\n",
-    )?;
+    );
     tell(
         rt,
         alloc,
         way,
         RAISES_AND_LOOKS,
-        &[two_votes(), drops(), too_old()],
+        &[voted, &DROPS, &TOO_OLD],
         b"commit 10.1 txn 1.1 try 1 exec 0 end done\nread x[1] 4\nout 4\nnone 2.1 open\nvalue x[1] 5\nended spent events 30\n",
-    )
+    );
+}
+
+fn tell_all(rt: &impl Abort, alloc: Global, way: Way) {
+    tell_votes(rt, alloc, way);
+    tell_misses(rt, alloc, way);
+    tell_recoveries(rt, alloc, way);
 }
 
 #[test]
-fn nodes_do_as_their_rules_say(rt: HostRuntime) -> Result<(), Fail> {
-    let alloc = rt.alloc();
-    tell_votes(&rt, alloc, Way::Here)?;
-    tell_misses(&rt, alloc, Way::Here)?;
-    tell_recoveries(&rt, alloc, Way::Here)
+fn nodes_do_as_their_rules_say(rt: HostRuntime) {
+    tell_all(&rt, rt.alloc(), Way::Here);
 }
 
 #[test]
-fn segments_may_be_run_elsewhere(rt: HostRuntime) -> Result<(), Fail> {
-    let alloc = rt.alloc();
-    tell_votes(&rt, alloc, Way::Elsewhere)?;
-    tell_misses(&rt, alloc, Way::Elsewhere)?;
-    tell_recoveries(&rt, alloc, Way::Elsewhere)
+fn segments_may_be_run_elsewhere(rt: HostRuntime) {
+    tell_all(&rt, rt.alloc(), Way::Elsewhere);
 }
 
 // While client 2's segment is run elsewhere the write that it read vanishes, and another job is pending.
-fn overtake(rt: &impl Abort, alloc: Global, origin: &Origin, world: &mut World) -> Result<(), Fail>
+fn overtake(rt: &impl Abort, alloc: Global, origin: &Origin, world: &mut World)
     requires { IsWorldOf origin.now world.old }
-    ensures { OnOk result (IsWorldOf origin.now world.new) }
+    ensures { IsWorldOf origin.now world.new }
 {
-    let done = work(rt, alloc, origin, world, 1)?;
-    play(rt, alloc, origin, world, Way::Here, vanishes())?;
-    is_stale(rt, alloc, origin, world, 1, &done)
+    let done = work(rt, alloc, origin, world, 1);
+    play(rt, alloc, origin, world, Way::Here, vanishes());
+    is_stale(rt, alloc, origin, world, 1, &done);
 }
 
-fn tell_overtaken(
-    rt: &impl Abort,
-    alloc: Global,
-    origin: &Origin,
-    world: &mut World,
-) -> Result<(), Fail>
+fn tell_overtaken(rt: &impl Abort, alloc: Global, origin: &Origin, world: &mut World)
     requires { IsWorldOf origin.now world.old }
 {
-    play(rt, alloc, origin, world, Way::Here, told())?;
-    overtake(rt, alloc, origin, world)?;
-    play(rt, alloc, origin, world, Way::Here, again())?;
+    play(rt, alloc, origin, world, Way::Here, told());
+    overtake(rt, alloc, origin, world);
+    play(rt, alloc, origin, world, Way::Here, again());
     reports(
         rt,
         alloc,
         origin,
         world,
         b"commit 20.2 txn 2.1 try 1 exec 1 end done\nread x[1] 0\nout 0\nnone 1.1 open\nended spent events 19\n",
-    )
+    );
 }
 
 #[test]
-fn a_segment_may_be_overtaken(rt: HostRuntime) -> Result<(), Fail> {
-    let alloc = rt.alloc();
-    let origin = origin(&rt, alloc, WRITES_AND_STOPS)?;
-    let mut world = begin(alloc, &origin)?;
-    tell_overtaken(&rt, alloc, &origin, &mut world)
+fn a_segment_may_be_overtaken(rt: HostRuntime) {
+    let origin = origin(&rt, rt.alloc(), WRITES_AND_STOPS);
+    let mut world = begin(&rt, rt.alloc(), &origin);
+    tell_overtaken(&rt, rt.alloc(), &origin, &mut world);
+    forget(world);
+    forget(origin);
 }

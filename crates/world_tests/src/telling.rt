@@ -2,149 +2,125 @@
 //!
 //! A version is told as `10.1`, an execution as `10.1/0`, and a write of it as `10.1/0/1`. Tables 0 to 2 are x, y and z.
 
-use morty_base::{Exec, Key, NoMemory, Version, Wid};
+use crate::checks::MEMORY;
+use morty_base::{Exec, Key, Version, Wid};
 use msg::{BaseEntry, Body, Content, Envelope, Kept, Read, Write};
 use net_core::Menu;
 use std::alloc::Global;
+use std::process::Abort;
 
-fn push_version(text: &mut String, ver: Version) -> Result<(), NoMemory> {
-    write!(text, " {}.{}", ver.ts, ver.client)?;
-    Ok(())
+fn push(rt: &impl Abort, text: &mut String, words: &str) {
+    text.push_str(words).expect(rt, MEMORY);
 }
 
-fn push_exec(text: &mut String, exec: Exec) -> Result<(), NoMemory> {
-    push_version(text, exec.ver)?;
-    write!(text, "/{}", exec.eid)?;
-    Ok(())
+fn push_version(rt: &impl Abort, text: &mut String, ver: Version) {
+    write!(text, " {}.{}", ver.ts, ver.client).expect(rt, MEMORY);
 }
 
-fn push_wid(text: &mut String, wid: Wid) -> Result<(), NoMemory> {
-    push_version(text, wid.ver)?;
-    write!(text, "/{}/{}", wid.eid, wid.seq)?;
-    Ok(())
+fn push_exec(rt: &impl Abort, text: &mut String, exec: Exec) {
+    let Version { ts, client } = exec.ver;
+    write!(text, " {ts}.{client}/{}", exec.eid).expect(rt, MEMORY);
 }
 
-fn table(key: Key) -> &'static str {
-    match key.table {
+fn push_wid(rt: &impl Abort, text: &mut String, wid: Wid) {
+    let Version { ts, client } = wid.ver;
+    write!(text, " {ts}.{client}/{}/{}", wid.eid, wid.seq).expect(rt, MEMORY);
+}
+
+fn push_key(rt: &impl Abort, text: &mut String, key: Key) {
+    let table = match key.table {
         0 => "x",
         1 => "y",
         2 => "z",
         _ => "other",
-    }
+    };
+    write!(text, " {table}[{}]", key.index).expect(rt, MEMORY);
 }
 
-fn push_key(text: &mut String, key: Key) -> Result<(), NoMemory> {
-    let table = table(key);
-    write!(text, " {table}[{}]", key.index)?;
-    Ok(())
-}
-
-fn push_value(text: &mut String, value: i64) -> Result<(), NoMemory> {
-    write!(text, " {value}")?;
-    Ok(())
+fn push_value(rt: &impl Abort, text: &mut String, value: i64) {
+    write!(text, " {value}").expect(rt, MEMORY);
 }
 
 // A key, the name of a write of it, and its value.
-fn push_named(text: &mut String, key: Key, wid: Wid, value: i64) -> Result<(), NoMemory> {
-    push_key(text, key)?;
-    push_wid(text, wid)?;
-    push_value(text, value)
+fn push_named(rt: &impl Abort, text: &mut String, key: Key, wid: Wid, value: i64) {
+    push_key(rt, text, key);
+    push_wid(rt, text, wid);
+    push_value(rt, text, value);
 }
 
-fn push_reads(text: &mut String, reads: &[Read]) -> Result<(), NoMemory> {
-    text.push_str(" reads {")?;
+fn push_reads(rt: &impl Abort, text: &mut String, reads: &[Read]) {
+    push(rt, text, " reads {");
     for read in reads {
-        push_named(text, read.key, read.wid, read.value)?;
+        push_named(rt, text, read.key, read.wid, read.value);
     }
-    text.push_str(" }")?;
-    Ok(())
+    push(rt, text, " }");
 }
 
-fn push_writes(text: &mut String, writes: &[Write]) -> Result<(), NoMemory> {
-    text.push_str(" writes {")?;
+fn push_writes(rt: &impl Abort, text: &mut String, writes: &[Write]) {
+    push(rt, text, " writes {");
     for write in writes {
-        push_key(text, write.key)?;
-        push_value(text, write.value)?;
+        push_key(rt, text, write.key);
+        push_value(rt, text, write.value);
     }
-    text.push_str(" }")?;
-    Ok(())
+    push(rt, text, " }");
 }
 
-fn push_printed(text: &mut String, out: &[i64]) -> Result<(), NoMemory> {
-    text.push_str(" out {")?;
+fn push_printed(rt: &impl Abort, text: &mut String, out: &[i64]) {
+    push(rt, text, " out {");
     for value in out {
-        push_value(text, *value)?;
+        push_value(rt, text, *value);
     }
-    text.push_str(" }")?;
-    Ok(())
+    push(rt, text, " }");
 }
 
-fn push_base(text: &mut String, base: &[BaseEntry]) -> Result<(), NoMemory> {
-    text.push_str(" base {")?;
+fn push_base(rt: &impl Abort, text: &mut String, base: &[BaseEntry]) {
+    push(rt, text, " base {");
     for entry in base {
-        push_named(text, entry.key, entry.wid, entry.value)?;
+        push_named(rt, text, entry.key, entry.wid, entry.value);
     }
-    text.push_str(" }")?;
-    Ok(())
+    push(rt, text, " }");
 }
 
-fn push_content(text: &mut String, content: &Content) -> Result<(), NoMemory> {
-    push_reads(text, content.reads.as_slice())?;
-    push_writes(text, content.writes.as_slice())?;
-    push_printed(text, content.out.as_slice())?;
-    write!(text, " {:?}", content.ending)?;
-    Ok(())
+fn push_content(rt: &impl Abort, text: &mut String, content: &Content) {
+    push_reads(rt, text, content.reads.as_slice());
+    push_writes(rt, text, content.writes.as_slice());
+    push_printed(rt, text, content.out.as_slice());
+    write!(text, " {:?}", content.ending).expect(rt, MEMORY);
 }
 
 // Nothing, where there is none.
-fn push_content_if(text: &mut String, content: &Option<Content>) -> Result<(), NoMemory> {
-    match content {
-        None => Ok(()),
-        Some(content) => push_content(text, content),
+fn push_content_if(rt: &impl Abort, text: &mut String, content: &Option<Content>) {
+    if let Some(content) = content {
+        push_content(rt, text, content);
     }
 }
 
-fn push_kept(text: &mut String, kept: &[Kept]) -> Result<(), NoMemory> {
-    text.push_str(" {")?;
+fn push_kept(rt: &impl Abort, text: &mut String, kept: &[Kept]) {
+    push(rt, text, " {");
     for kept in kept {
-        push_exec(text, kept.exec)?;
-        push_content(text, &kept.content)?;
+        push_exec(rt, text, kept.exec);
+        push_content(rt, text, &kept.content);
     }
-    text.push_str(" }")?;
-    Ok(())
-}
-
-fn push_gone(text: &mut String, gone: Option<Wid>) -> Result<(), NoMemory> {
-    match gone {
-        None => Ok(()),
-        Some(wid) => {
-            text.push_str(" gone")?;
-            push_wid(text, wid)
-        }
-    }
-}
-
-fn sure_word(sure: bool) -> &'static str {
-    if sure { " sure" } else { " unsure" }
+    push(rt, text, " }");
 }
 
 // What a client says of an execution.
-fn push_said(text: &mut String, body: &Body) -> Result<(), NoMemory> {
+fn push_said(rt: &impl Abort, text: &mut String, body: &Body) {
     match body {
         Body::Get { exec, key } => {
-            text.push_str(" get")?;
-            push_exec(text, *exec)?;
-            push_key(text, *key)
+            push(rt, text, " get");
+            push_exec(rt, text, *exec);
+            push_key(rt, text, *key);
         }
         Body::Puts { exec, writes } => {
-            text.push_str(" puts")?;
-            push_exec(text, *exec)?;
-            push_writes(text, writes.as_slice())
+            push(rt, text, " puts");
+            push_exec(rt, text, *exec);
+            push_writes(rt, text, writes.as_slice());
         }
         Body::Prepare { exec, content } => {
-            text.push_str(" prepare")?;
-            push_exec(text, *exec)?;
-            push_content(text, content)
+            push(rt, text, " prepare");
+            push_exec(rt, text, *exec);
+            push_content(rt, text, content);
         }
         Body::Finalize {
             exec,
@@ -152,27 +128,27 @@ fn push_said(text: &mut String, body: &Body) -> Result<(), NoMemory> {
             choice,
             content,
         } => {
-            text.push_str(" finalize")?;
-            push_exec(text, *exec)?;
-            write!(text, " view {view} {choice:?}")?;
-            push_content_if(text, content)
+            push(rt, text, " finalize");
+            push_exec(rt, text, *exec);
+            write!(text, " view {view} {choice:?}").expect(rt, MEMORY);
+            push_content_if(rt, text, content);
         }
         Body::Decide {
             exec,
             choice,
             content,
         } => {
-            text.push_str(" decide")?;
-            push_exec(text, *exec)?;
-            write!(text, " {choice:?}")?;
-            push_content_if(text, content)
+            push(rt, text, " decide");
+            push_exec(rt, text, *exec);
+            write!(text, " {choice:?}").expect(rt, MEMORY);
+            push_content_if(rt, text, content);
         }
-        _ => Ok(()),
+        _ => (),
     }
 }
 
 // What a replica answers.
-fn push_answer(text: &mut String, body: &Body) -> Result<(), NoMemory> {
+fn push_answer(rt: &impl Abort, text: &mut String, body: &Body) {
     match body {
         Body::Note {
             ver,
@@ -182,23 +158,24 @@ fn push_answer(text: &mut String, body: &Body) -> Result<(), NoMemory> {
             sure,
             gone,
         } => {
-            text.push_str(" note")?;
-            push_version(text, *ver)?;
-            push_named(text, *key, *wid, *value)?;
-            text.push_str(sure_word(*sure))?;
-            push_gone(text, *gone)
+            push(rt, text, " note");
+            push_version(rt, text, *ver);
+            push_named(rt, text, *key, *wid, *value);
+            push(rt, text, if *sure { " sure" } else { " unsure" });
+            if let Some(wid) = gone {
+                push(rt, text, " gone");
+                push_wid(rt, text, *wid);
+            }
         }
         Body::Vote { exec, vote } => {
-            text.push_str(" vote")?;
-            push_exec(text, *exec)?;
-            write!(text, " {vote:?}")?;
-            Ok(())
+            push(rt, text, " vote");
+            push_exec(rt, text, *exec);
+            write!(text, " {vote:?}").expect(rt, MEMORY);
         }
         Body::Accepted { exec, view } => {
-            text.push_str(" accepted")?;
-            push_exec(text, *exec)?;
-            write!(text, " view {view}")?;
-            Ok(())
+            push(rt, text, " accepted");
+            push_exec(rt, text, *exec);
+            write!(text, " view {view}").expect(rt, MEMORY);
         }
         Body::Told {
             exec,
@@ -208,10 +185,10 @@ fn push_answer(text: &mut String, body: &Body) -> Result<(), NoMemory> {
             decided,
             content,
         } => {
-            text.push_str(" told")?;
-            push_exec(text, *exec)?;
-            write!(text, " view {view} {vote:?} {accepted:?} {decided:?}")?;
-            push_content_if(text, content)
+            push(rt, text, " told");
+            push_exec(rt, text, *exec);
+            write!(text, " view {view} {vote:?} {accepted:?} {decided:?}").expect(rt, MEMORY);
+            push_content_if(rt, text, content);
         }
         Body::Fenced {
             w,
@@ -219,80 +196,70 @@ fn push_answer(text: &mut String, body: &Body) -> Result<(), NoMemory> {
             committed,
             voted,
         } => {
-            text.push_str(" fenced")?;
-            push_version(text, *w)?;
-            push_base(text, base.as_slice())?;
-            text.push_str(" committed")?;
-            push_kept(text, committed.as_slice())?;
-            text.push_str(" voted")?;
-            push_kept(text, voted.as_slice())
+            push(rt, text, " fenced");
+            push_version(rt, text, *w);
+            push_base(rt, text, base.as_slice());
+            push(rt, text, " committed");
+            push_kept(rt, text, committed.as_slice());
+            push(rt, text, " voted");
+            push_kept(rt, text, voted.as_slice());
         }
         Body::TooOld { ver, w } => {
-            text.push_str(" too old")?;
-            push_version(text, *ver)?;
-            push_version(text, *w)
+            push(rt, text, " too old");
+            push_version(rt, text, *ver);
+            push_version(rt, text, *w);
         }
-        _ => Ok(()),
+        _ => (),
     }
 }
 
 // What a warden alone says.
-fn push_asked(text: &mut String, body: &Body) -> Result<(), NoMemory> {
+fn push_asked(rt: &impl Abort, text: &mut String, body: &Body) {
     match body {
         Body::Ask { exec, view } => {
-            text.push_str(" ask")?;
-            push_exec(text, *exec)?;
-            write!(text, " view {view}")?;
-            Ok(())
+            push(rt, text, " ask");
+            push_exec(rt, text, *exec);
+            write!(text, " view {view}").expect(rt, MEMORY);
         }
         Body::Fence { w } => {
-            text.push_str(" fence")?;
-            push_version(text, *w)
+            push(rt, text, " fence");
+            push_version(rt, text, *w);
         }
         Body::Drop { w, base } => {
-            text.push_str(" drop")?;
-            push_version(text, *w)?;
-            push_base(text, base.as_slice())
+            push(rt, text, " drop");
+            push_version(rt, text, *w);
+            push_base(rt, text, base.as_slice());
         }
-        _ => Ok(()),
+        _ => (),
     }
 }
 
 /// The envelope of this number: its sender, its receiver, and what it says.
-pub(crate) fn envelope_line(
-    alloc: Global,
-    number: u64,
-    env: &Envelope,
-) -> Result<String, NoMemory> {
-    let mut text = format!(in alloc; "{number} {:?} > {:?}:", env.from, env.to)?;
-    push_said(&mut text, &env.body)?;
-    push_answer(&mut text, &env.body)?;
-    push_asked(&mut text, &env.body)?;
-    Ok(text)
-}
-
-fn push_stuck(text: &mut String, stuck: Option<Exec>) -> Result<(), NoMemory> {
-    match stuck {
-        None => Ok(()),
-        Some(exec) => {
-            text.push_str(", stuck")?;
-            push_exec(text, exec)
-        }
-    }
+pub(crate) fn envelope_line(rt: &impl Abort, alloc: Global, number: u64, env: &Envelope) -> String {
+    let line = format!(in alloc; "{number} {:?} > {:?}:", env.from, env.to);
+    let mut text = line.expect(rt, MEMORY);
+    push_said(rt, &mut text, &env.body);
+    push_answer(rt, &mut text, &env.body);
+    push_asked(rt, &mut text, &env.body);
+    text
 }
 
 /// What a link is shown.
-pub(crate) fn menu_line(alloc: Global, menu: &Menu<'_>) -> Result<String, NoMemory> {
-    let mut text = format!(in alloc;
+pub(crate) fn menu_line(rt: &impl Abort, alloc: Global, menu: &Menu<'_>) -> String {
+    let line = format!(in alloc;
         "{} events, fresh {:?}, old {:?}",
         menu.now, menu.fresh, menu.old
-    )?;
+    );
+    let mut text = line.expect(rt, MEMORY);
     if menu.go {
-        text.push_str(", go")?;
+        push(rt, &mut text, ", go");
     }
     if menu.hurry {
-        text.push_str(", hurry")?;
+        push(rt, &mut text, ", hurry");
     }
-    push_stuck(&mut text, menu.stuck)?;
-    Ok(text)
+    if let Some(exec) = menu.stuck {
+        push(rt, &mut text, ", stuck");
+        push_exec(rt, &mut text, exec);
+    }
+    text
 }

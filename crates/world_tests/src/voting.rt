@@ -13,7 +13,7 @@ program put { write x[1] 1 } program look { read c x[1]; print c }
 client 1 { put at 10 } client 2 { look at 20 } end";
 
 // Client 2 commits its read before the write comes, which would have been below it.
-static MISSED: [Row; 17] = [
+pub(crate) static MISSED: [Row; 17] = [
     Moves(Picked(CLIENT2, Go), &[]),
     Moves(Ran(2), &["0 Client(2) > Replica(1): get 20.2/0 x[1]"]),
     Moves(
@@ -70,7 +70,7 @@ pub(crate) const LOOKS: &[u8] =
     b"morty 1 table x program look { read c x[1]; print c } client 1 { look at 20 } end";
 
 // Two replicas vote Commit, and the third accepts what it has not voted on.
-static HURRIED: [Row; 18] = [
+pub(crate) static HURRIED: [Row; 18] = [
     Moves(Picked(CLIENT1, Go), &[]),
     Moves(
         Ran(1),
@@ -133,11 +133,3 @@ static HURRIED: [Row; 18] = [
     ),
     Still(Picked(CLIENT1, Hurry)),
 ];
-
-pub(crate) fn missed() -> &'static [Row] {
-    &MISSED
-}
-
-pub(crate) fn hurried() -> &'static [Row] {
-    &HURRIED
-}

@@ -1,4 +1,5 @@
 -- A segment that is given back leads to a world of the same origin.
+use Rattle.std.proofs.lemmas.Result.{IfOk-at_ok}
 use Rattle.world_tests.proofs.PlayingLemmas.{led_on}
 use Rattle.world_tests.proofs.playing.give.Goals as goal
 
@@ -7,6 +8,6 @@ returns g c =
     let w = c.requires.world in
     let o = c.args.origin.now in
     let n = c.node-node.result in
-    let out = c.in_ok-give.field-0 in
-    let led = led_on _ _ _ w.history n out _ (c.in_ok-give.ensures.given o w.history n w.stands (c.node-node.ensures o w.history w.stands)) in
-    record { history = led.0; stands = led.1; usable = c.in_ok-give.ensures.usable }
+    let given = IfOk-at_ok _ c.expect.ensures c.give.ensures.given o w.history n w.stands (c.node-node.ensures o w.history w.stands) in
+    let led = led_on _ _ _ w.history n c.expect.result _ given in
+    record { history = led.0; stands = led.1; usable = c.give.ensures.usable }
