@@ -1,0 +1,7 @@
+-- The body has its tree.
+use Rattle.std.proofs.Common.{◌∙◌}
+use Rattle.client_tests.proofs.ProgramLemmas.{is_puts}
+use Rattle.client_tests.proofs.programs.puts_4_body.Goals as goal
+
+pub returns : goal.returns
+returns c = is_puts 4 c.block.result (c.block.ensures ∙ c.in_ok-vec.ensures.items)

@@ -1,0 +1,11 @@
+-- The program raises.
+use Rattle.std.proofs.Common.{[], ◌∷◌}
+use Rattle.std.specs.Prelude.{codes}
+use Rattle.txn_lang.specs.Tree.{commands}
+use Rattle.client_tests.specs.Programs.{raises}
+use Rattle.client_tests.proofs.ProgramLemmas.{raises_formed, formed_as}
+use Rattle.client_tests.proofs.programs.raises.Goals as goal
+
+pub make_prog-requires : goal.make_prog-requires
+make_prog-requires c =
+    formed_as c.in_ok-names.names (codes "a" ∷ []) (commands c.in_ok-body.body) raises c.in_ok-names.ensures c.in_ok-body.ensures raises_formed
