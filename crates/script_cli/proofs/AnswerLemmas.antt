@@ -10,7 +10,7 @@ use Rattle.script.specs.declared.setup.Setup.{Setup}
 use Rattle.script.specs.Sayable.{IsSetup}
 use Rattle.script_runs.specs.Runs.{IsRunOf}
 use Rattle.script_cli.specs.declared.words.Command.{Command}
-use Rattle.script_cli.specs.Words.{command_of, reads, runs}
+use Rattle.script_cli.specs.Words.{command_of, reads, runs, is_shared}
 use Rattle.script_cli.specs.Lines.{bad_command_line, read_failed, too_long}
 use Rattle.script_cli.specs.Due.{Due, unrun, AreLeft, IsTooLong, status_of, text_of_run, IsUnnamed, IsRunDue, IsLinkDue, IsDueOf, Printed, Unnamed, Ran, Linkless, IsFaulty, Of_script, Of_fault, IsDue, Unread, Too_long, Read, Generated}
 use Rattle.script_cli.specs.Answer.{Given, Whole, Part, IsAnswered, Refused, Answered, Out_of_memory}
@@ -102,8 +102,8 @@ module _ (left : Option (List ℕ)) (R : Type 0) (handed : List LinkState) where
       setup = setup;
       own = own;
       ended = run.ended;
-      run = subst (λ (j : List Event). IsRunOf s handed run.ended (reverse j) g.links) (sym w.journal)
-          (subst (λ (l : List LinkState). IsRunOf s handed run.ended (reverse w.due.journal) l) (sym w.links) run.run);
+      run = subst (λ (j : List Event). IsRunOf (is_shared c) s handed run.ended (reverse j) g.links) (sym w.journal)
+          (subst (λ (l : List LinkState). IsRunOf (is_shared c) s handed run.ended (reverse w.due.journal) l) (sym w.links) run.run);
       status = w.status ∙ run.status;
       written = subst (Takes old new) (run.written ∙ ap (λ (j : List Event). text_of_run c s j run.ended) (sym w.journal)) w.takes;
     }

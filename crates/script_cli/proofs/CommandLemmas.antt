@@ -19,7 +19,7 @@ not_both b holds fails = let e : true ≡ false = sym holds ∙ fails in cc
 
 -- the script of a command that reads, and of one that does not
 pub own_read : (c : Command) (left : Option (List ℕ)) (s : Setup) (bytes : List ℕ) → reads c ≡ true → AreLeft left bytes → IsScriptText bytes s → IsScriptFor c left s
-own_read Run left s bytes reading are says = (bytes, are, says)
+own_read (Run workers) left s bytes reading are says = (bytes, are, says)
 own_read (Serial asked) left s bytes reading are says = (bytes, are, says)
 own_read Check left s bytes reading are says = (bytes, are, says)
 own_read Trace left s bytes reading are says = (bytes, are, says)
@@ -27,7 +27,7 @@ own_read (Gen seeded) left s bytes reading are says = absurd (not_both false rea
 own_read (Big seeded) left s bytes reading are says = absurd (not_both false reading refl)
 
 pub own_generated : (c : Command) (left : Option (List ℕ)) (s : Setup) → IsGeneratedFor c s → IsScriptFor c left s
-own_generated Run left s is = absurd is
+own_generated (Run workers) left s is = absurd is
 own_generated (Serial asked) left s is = absurd is
 own_generated Check left s is = absurd is
 own_generated Trace left s is = absurd is

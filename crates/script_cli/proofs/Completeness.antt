@@ -25,11 +25,11 @@ record WereGood (bytes : List ℕ) : Type 0 where
 were_good : (c : Command) (left : Option (List ℕ)) (bytes : List ℕ) → reads c ≡ true → IsGoodInput c left → AreLeft left bytes → WereGood bytes
 were_good (Gen seeded) left bytes reading good are = absurd (not_both false reading refl)
 were_good (Big seeded) left bytes reading good are = absurd (not_both false reading refl)
-were_good Run None bytes reading good are = absurd good
+were_good (Run workers) None bytes reading good are = absurd good
 were_good (Serial asked) None bytes reading good are = absurd good
 were_good Check None bytes reading good are = absurd good
 were_good Trace None bytes reading good are = absurd good
-were_good Run (Some told) bytes reading good are = record { script = good.0; says = subst (λ (b : List ℕ). IsScriptText b good.0) (sym are) good.1 }
+were_good (Run workers) (Some told) bytes reading good are = record { script = good.0; says = subst (λ (b : List ℕ). IsScriptText b good.0) (sym are) good.1 }
 were_good (Serial asked) (Some told) bytes reading good are = record { script = good.0; says = subst (λ (b : List ℕ). IsScriptText b good.0) (sym are) good.1 }
 were_good Check (Some told) bytes reading good are = record { script = good.0; says = subst (λ (b : List ℕ). IsScriptText b good.0) (sym are) good.1 }
 were_good Trace (Some told) bytes reading good are = record { script = good.0; says = subst (λ (b : List ℕ). IsScriptText b good.0) (sym are) good.1 }
@@ -37,11 +37,11 @@ were_good Trace (Some told) bytes reading good are = record { script = good.0; s
 not_long : (c : Command) (left : Option (List ℕ)) → reads c ≡ true → IsGoodInput c left → IfSome left IsTooLong → ⊥
 not_long (Gen seeded) left reading good over = not_both false reading refl
 not_long (Big seeded) left reading good over = not_both false reading refl
-not_long Run None reading good over = good
+not_long (Run workers) None reading good over = good
 not_long (Serial asked) None reading good over = good
 not_long Check None reading good over = good
 not_long Trace None reading good over = good
-not_long Run (Some told) reading good over = let short = good.1.short in omega (arith, over)
+not_long (Run workers) (Some told) reading good over = let short = good.1.short in omega (arith, over)
 not_long (Serial asked) (Some told) reading good over = let short = good.1.short in omega (arith, over)
 not_long Check (Some told) reading good over = let short = good.1.short in omega (arith, over)
 not_long Trace (Some told) reading good over = let short = good.1.short in omega (arith, over)

@@ -1,7 +1,9 @@
 pub mod WordsLemmas
 pub mod DifferLemmas
 pub mod CommandLemmas
+pub mod TaskLemmas
 pub mod AnswerLemmas
 pub mod Completeness
+pub mod ExitLemmas
 pub mod EventNodes
 pub mod RunTexts

@@ -1,5 +1,5 @@
 -- What is written of a run is of the world of its setup.
-use Rattle.std.proofs.Common.{◌≡◌, ◌⊎◌, List, reverse, sym, ap, inl, inr}
+use Rattle.std.proofs.Common.{◌≡◌, ℕ, ◌⊎◌, List, reverse, sym, ap, inl, inr}
 use Rattle.morty_base.specs.declared.names.Ended.{Ended}
 use Rattle.report.specs.Text.{report_of}
 use Rattle.msg.specs.declared.Event.{Event}
@@ -26,9 +26,9 @@ unfolding world_for
 mail_is o s journal own = ap (λ (x : Setup). (world_for x (reverse journal)).mail) own
 
 -- a command that writes neither a trace nor a summary writes a report
-pub is_reported : (c : Command) → (c ≡ Run) ⊎ (((x : List SerialItem) × (c ≡ Serial x)) ⊎ ((c ≡ Check) ⊎ ((x : Seeded) × (c ≡ Gen x)))) →
+pub is_reported : (c : Command) → ((x : ℕ) × (c ≡ Run x)) ⊎ (((x : List SerialItem) × (c ≡ Serial x)) ⊎ ((c ≡ Check) ⊎ ((x : Seeded) × (c ≡ Gen x)))) →
     (s : Setup) (journal : List Event) (ended : Ended) → report_of s.tables (rows_for s journal) ended ≡ text_of_run c s journal ended
-is_reported c (inl is) s journal ended = ap (λ (k : Command). text_of_run k s journal ended) (sym is)
+is_reported c (inl is) s journal ended = ap (λ (k : Command). text_of_run k s journal ended) (sym is.1)
 is_reported c (inr (inl is)) s journal ended = ap (λ (k : Command). text_of_run k s journal ended) (sym is.1)
 is_reported c (inr (inr (inl is))) s journal ended = ap (λ (k : Command). text_of_run k s journal ended) (sym is)
 is_reported c (inr (inr (inr is))) s journal ended = ap (λ (k : Command). text_of_run k s journal ended) (sym is.1)

@@ -26,7 +26,7 @@ use Rattle.script_runs.specs.Runs.{world_for, IsRunOf, IsLinkMissing}
 use Rattle.script_cli.specs.declared.words.Command.{Command}
 use Rattle.script_cli.specs.declared.words.Command.TheVariants.{Serial, Trace, Gen, Big}
 use Rattle.script_cli.specs.declared.output.Output.{Output}
-use Rattle.script_cli.specs.Words.{reads, runs}
+use Rattle.script_cli.specs.Words.{reads, runs, is_shared}
 use Rattle.script_cli.specs.Lines.{bad_command_line, read_failed, too_long, fault_line, no_link_line}
 
 -- a text, with the status, the events and the links of the run behind it
@@ -78,7 +78,7 @@ text_of_run _ s journal ended = report_of s.tables (rows_for s journal) ended
 -- the script was run, and this is what is written of its run
 pub record IsRunDue (c : Command) (s : Setup) (handed : List LinkState) (d : Due) : Type 0 where
   pub ended : Ended
-  pub run : IsRunOf s handed ended (reverse d.journal) d.links
+  pub run : IsRunOf (is_shared c) s handed ended (reverse d.journal) d.links
   pub status : d.status ≡ status_of ended
   pub written : d.text ≡ text_of_run c s d.journal ended
 

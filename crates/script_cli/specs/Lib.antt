@@ -1,5 +1,6 @@
 pub mod Words
 pub mod Lines
 pub mod Due
+pub mod Tasks
 pub mod Answer
 pub mod Clauses

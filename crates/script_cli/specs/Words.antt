@@ -1,5 +1,5 @@
 -- What the words of a call ask for: the table of its commands.
-use Rattle.std.specs.Prelude.{ℕ, ◌+◌, ◌≤◌, ⊤, Bool, true, false, not, ◌&&◌, ◌==◌, nat_lt, nat_le, length, take, drop, if◌then◌else◌, List, [], ◌∷◌, codes, Option, Some, None}
+use Rattle.std.specs.Prelude.{ℕ, ◌+◌, ◌∸◌, ◌≤◌, ⊤, Bool, true, false, not, ◌&&◌, ◌==◌, nat_lt, nat_le, length, take, drop, if◌then◌else◌, List, [], ◌∷◌, codes, Option, Some, None, is_some}
 use Rattle.std.specs.Option.{option_map, option_and_then}
 use Rattle.std.specs.List.{list_all, position}
 use Rattle.std.specs.Str.{bytes_eq}
@@ -85,15 +85,23 @@ abbrev pub seeded_of : List (List ℕ) → Option Seeded
 seeded_of (seed ∷ size ∷ []) = seeded (number_said 0 GREATEST_SEED seed) size
 seeded_of rest = None
 
--- behind `run` stands that one worker runs, or nothing
-abbrev pub is_one_worker : List (List ℕ) → Bool
-is_one_worker [] = true
-is_one_worker (word ∷ []) = bytes_eq word (codes "--workers=1")
-is_one_worker (word ∷ count ∷ []) = bytes_eq word (codes "--workers") && bytes_eq count (codes "1")
-is_one_worker rest = false
+-- how many workers a word asks for: one digit, from 1 to 8
+abbrev pub digit_said : ℕ → Option ℕ
+digit_said digit = if nat_le 49 digit && nat_le digit 56 then Some (digit ∸ 48) else None
+
+abbrev pub workers_said : List ℕ → Option ℕ
+workers_said (digit ∷ []) = digit_said digit
+workers_said _ = None
+
+-- how many the words behind `run` ask for: one, where there are none
+abbrev pub workers_of : List (List ℕ) → Option ℕ
+workers_of [] = Some 1
+workers_of (word ∷ []) = if bytes_eq (take 10 word) (codes "--workers=") then workers_said (drop 10 word) else None
+workers_of (word ∷ count ∷ []) = if bytes_eq word (codes "--workers") then workers_said count else None
+workers_of rest = None
 
 abbrev pub run_of : List (List ℕ) → Option Command
-run_of rest = if is_one_worker rest then Some Run else None
+run_of rest = option_map Run (workers_of rest)
 
 -- behind `check` and `trace` stands no word
 abbrev pub alone : Command → List (List ℕ) → Option Command
@@ -109,15 +117,18 @@ abbrev pub summing : Option Seeded → Option Command
 summing None = None
 summing (Some s) = Some (Big s)
 
--- the command of a first word and those behind it
-abbrev pub command_said : List ℕ → List (List ℕ) → Option Command
-command_said word rest =
-    if bytes_eq word (codes "run") then run_of rest
-    else (if bytes_eq word (codes "serial") then serial_of rest
+-- the command of another first word than `run`
+abbrev pub command_but_run : List ℕ → List (List ℕ) → Option Command
+command_but_run word rest =
+    if bytes_eq word (codes "serial") then serial_of rest
     else (if bytes_eq word (codes "check") then alone Check rest
     else (if bytes_eq word (codes "trace") then alone Trace rest
     else (if bytes_eq word (codes "gen") then generating (seeded_of rest)
-    else (if bytes_eq word (codes "big") then summing (seeded_of rest) else None)))))
+    else (if bytes_eq word (codes "big") then summing (seeded_of rest) else None))))
+
+-- the command of a first word and those behind it
+abbrev pub command_said : List ℕ → List (List ℕ) → Option Command
+command_said word rest = if bytes_eq word (codes "run") then run_of rest else command_but_run word rest
 
 -- the command that the words are, if they are one
 abbrev pub command_of : List (List ℕ) → Option Command
@@ -145,7 +156,24 @@ reads _ = true
 
 -- it runs its script over links
 abbrev pub runs : Command → Bool
-runs Run = true
+runs (Run workers) = true
 runs Trace = true
 runs (Big s) = true
 runs _ = false
+
+-- it runs its script by several workers
+abbrev pub is_shared : Command → Bool
+is_shared (Run workers) = nat_lt 1 workers
+is_shared _ = false
+
+-- how many workers the words ask for, where these are several
+abbrev pub if_several : Option ℕ → Option ℕ
+if_several None = None
+if_several (Some workers) = if nat_lt 1 workers then Some workers else None
+
+abbrev pub several_of : List (List ℕ) → Option ℕ
+several_of [] = None
+several_of (word ∷ rest) = if bytes_eq word (codes "run") then if_several (workers_of rest) else None
+
+abbrev pub wants_workers : List (List ℕ) → Bool
+wants_workers words = is_some (several_of words)

@@ -2,8 +2,9 @@
 //!
 //! Read `specs/Words`, what the words ask for; `Lines`, what is written where nothing else is; `Due`, what a command is to
 //! write for a script, and for what the source had left; `Answer`, what a call then answers; and `Clauses`, what that says
-//! of each status. The code makes all that is to be written before it writes (`made`, over `texts` and `lines`); `top`
-//! alone writes.
+//! of each status, and at its end all that is promised of a call. The code makes all that is to be written before it writes
+//! (`made`, over `texts` and `lines`): what is left to do for a command is to write, or to run a world first, in this thread
+//! or by several workers (`specs/Tasks`). `top` alone writes.
 #![tactic(auto)]
 
 mod lines;
@@ -14,5 +15,5 @@ mod top;
 mod words;
 
 pub use output::Output;
-pub use top::{Answer, Exit, run_here};
-pub use words::{Command, Seeded, read_words};
+pub use top::{Answer, Exit, run_cli, run_here};
+pub use words::{Command, Seeded, read_words, wants_workers};

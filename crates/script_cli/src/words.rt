@@ -1,8 +1,8 @@
-ghost use Rattle.std.specs.Prelude.{◌≡◌, ◌≤◌, ◌↔◌, IsTrue, IfSome, IfOk};
+ghost use Rattle.std.specs.Prelude.{◌≡◌, ◌<◌, ◌≤◌, ◌↔◌, IsTrue, IfSome, IfOk};
 ghost use Rattle.std.specs.List.{list_all};
 ghost use Rattle.morty_base.specs.ScriptNames.{is_digit};
 ghost use Rattle.std.specs.List.{position};
-ghost use Rattle.script_cli.specs.Words.{is_decimal, number_said, is_byte, item_said, items_said, serial_if, serial_of, seeded_of, is_one_worker, run_of, alone, generating, summing, command_said, command_of, IsInRange, IsSeeded, reads, runs};
+ghost use Rattle.script_cli.specs.Words.{is_decimal, number_said, is_byte, item_said, items_said, serial_if, serial_of, seeded_of, workers_said, workers_of, run_of, alone, generating, summing, command_but_run, command_of, several_of, wants_workers, IsInRange, IsSeeded, reads, runs};
 ghost use Rattle.serial_ref.specs.SerialItem.{DifferInVersion};
 
 use lab::{GREATEST_SEED, MOST_GENERATED};
@@ -21,8 +21,8 @@ pub struct Seeded {
 /// What a call of the program is asked for.
 #[derive(Debug, Drop)]
 pub enum Command {
-    /// The report of the run of the script that is read.
-    Run,
+    /// The report of the run, by so many workers, of the script that is read.
+    Run(u32),
     /// The serial run of these transactions of the script that is read; without any, of all of them at their first tries.
     Serial(List<SerialItem>),
     /// The canonical text of the script that is read, or its fault.
@@ -41,7 +41,7 @@ impl Command {
         ensures { result ≡ runs self.now }
     {
         match self {
-            Command::Run | Command::Trace | Command::Big(_) => true,
+            Command::Run(_) | Command::Trace | Command::Big(_) => true,
             Command::Serial(_) | Command::Check | Command::Gen(_) => false,
         }
     }
@@ -158,27 +158,50 @@ fn seeded_of(rest: &[List<u8>]) -> Option<Seeded>
     })
 }
 
-/// Whether the words say that one worker runs, or nothing.
-fn is_one_worker(rest: &[List<u8>]) -> bool
-    ensures { result ≡ is_one_worker rest.now }
+/// How many workers a word asks for: one digit, from 1 to 8.
+fn workers_said(word: &[u8]) -> Option<u32>
+    ensures said { result ≡ workers_said word.now }
+    ensures few { IfSome result (λ n. (1 ≤ n) × (n ≤ 8)) }
+{
+    match word {
+        [digit] => {
+            if b'1' <= *digit && *digit <= b'8' {
+                Some(u32::from(*digit - b'0'))
+            } else {
+                None
+            }
+        }
+        _ => None,
+    }
+}
+
+/// How many workers the words behind `run` ask for: one, where there are none.
+fn workers_of(rest: &[List<u8>]) -> Option<u32>
+    ensures said { result ≡ workers_of rest.now }
+    ensures few { IfSome result (λ n. (1 ≤ n) × (n ≤ 8)) }
 {
     match rest {
-        [] => true,
-        [word] => word.as_slice() == b"--workers=1".as_slice(),
-        [word, count] => word.as_slice() == b"--workers".as_slice()
-            && count.as_slice() == b"1".as_slice(),
-        _ => false,
+        [] => Some(1),
+        [word] => {
+            let count = word.as_slice().strip_prefix(b"--workers=".as_slice())?;
+            workers_said(count)
+        }
+        [word, count] => {
+            if word.as_slice() == b"--workers".as_slice() {
+                workers_said(count.as_slice())
+            } else {
+                None
+            }
+        }
+        _ => None,
     }
 }
 
 fn run_of(rest: &[List<u8>]) -> Option<Command>
     ensures { result ≡ run_of rest.now }
 {
-    if is_one_worker(rest) {
-        Some(Command::Run)
-    } else {
-        None
-    }
+    let workers = workers_of(rest)?;
+    Some(Command::Run(workers))
 }
 
 /// The command, where no word stands behind it.
@@ -211,14 +234,16 @@ fn summing(seeded: Option<Seeded>) -> Option<Command>
     }
 }
 
-// The command of a first word and those behind it.
-fn command_said(alloc: Global, word: &[u8], rest: &[List<u8>]) -> Result<Option<Command>, NoMemory>
-    ensures command { IfOk result (λ c. c ≡ command_said word.now rest.now) }
+// The command of another first word than `run`.
+fn command_but_run(
+    alloc: Global,
+    word: &[u8],
+    rest: &[List<u8>],
+) -> Result<Option<Command>, NoMemory>
+    ensures command { IfOk result (λ c. c ≡ command_but_run word.now rest.now) }
     ensures in_range { IfOk result (λ c. IfSome c IsInRange) }
 {
-    if word == b"run".as_slice() {
-        Ok(run_of(rest))
-    } else if word == b"serial".as_slice() {
+    if word == b"serial".as_slice() {
         serial_of(alloc, rest)
     } else if word == b"check".as_slice() {
         Ok(alone(Command::Check, rest))
@@ -233,13 +258,37 @@ fn command_said(alloc: Global, word: &[u8], rest: &[List<u8>]) -> Result<Option<
     }
 }
 
-/// The command that the words are, if they are one. Those that ask for several workers are none.
+/// The command that the words are, if they are one.
 pub fn read_words(alloc: Global, words: &[List<u8>]) -> Result<Option<Command>, NoMemory>
     ensures command { IfOk result (λ c. c ≡ command_of words.now) }
     ensures in_range { IfOk result (λ c. IfSome c IsInRange) }
 {
-    match words.split_first() {
-        Some((word, rest)) => command_said(alloc, word.as_slice(), rest),
-        None => Ok(None),
+    let Some((word, rest)) = words.split_first() else {
+        return Ok(None);
+    };
+    if word.as_slice() == b"run".as_slice() {
+        Ok(run_of(rest))
+    } else {
+        command_but_run(alloc, word.as_slice(), rest)
     }
+}
+
+/// How many workers the words ask for, where these are several.
+pub(crate) fn several_workers(words: &[List<u8>]) -> Option<u32>
+    ensures said { result ≡ several_of words.now }
+    ensures several { IfSome result (λ n. (1 < n) × (n ≤ 8)) }
+{
+    let (word, rest) = words.split_first()?;
+    if word.as_slice() != b"run".as_slice() {
+        return None;
+    }
+    let workers = workers_of(rest)?;
+    if workers > 1 { Some(workers) } else { None }
+}
+
+/// Whether the words ask for several workers: true exactly for `run` with 2 to 8 of them.
+pub fn wants_workers(words: &[List<u8>]) -> bool
+    ensures { result ≡ wants_workers words.now }
+{
+    several_workers(words).is_some()
 }

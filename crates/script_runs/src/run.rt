@@ -1,24 +1,40 @@
-ghost use Rattle.std.specs.Prelude.{◌≡◌, List as ListOf, [], IfOk, length, map};
+ghost use Rattle.std.specs.Prelude.{◌≡◌, ◌≤◌, List as ListOf, true, false, IfOk, map};
+ghost use Rattle.script.specs.declared.setup.Setup.{Setup as SetupValue};
 ghost use Rattle.script.specs.Sayable.{IsSetup};
-ghost use Rattle.menus.specs.Slots.{count_of};
 ghost use Rattle.net_core.specs.Ruled.{LinkState};
-ghost use Rattle.script_plans.specs.Plans.{link_kind};
-ghost use Rattle.links.specs.Choosing.{AreChosen};
-ghost use Rattle.world.specs.Origin.{AreCodes};
-ghost use Rattle.world.specs.World.{Stands};
-ghost use Rattle.script_runs.specs.Runs.{IsMadeOf, IsRan};
+ghost use Rattle.script_runs.specs.Runs.{IsPreparedOf, IsReady, IsRan};
 
 use crate::begin::begin_all;
-use flat_code::Code;
 use links::{Chosen, choose};
-use morty_base::{Ended, List, NoMemory};
+use morty_base::{Ended, NoMemory};
 use msg::Event;
 use net_core::{Link, Machine};
+use node_future::Gate;
 use runner::run_fresh;
 use script::Setup;
 use script_plans::kind_of;
-use std::alloc::Global;
+use std::alloc::{AllocGlobal, Global};
+use std::random::RandomSource;
+use std::sync::Wait;
+use std::thread::Threads;
+use workers::work_fresh;
 use world::{Origin, World, kit};
+
+/// A world that has taken no event, with the links of its nodes, each begun with the plan of its slot.
+#[derive(Drop)]
+pub struct Ready<L: Drop> {
+    pub origin: Origin,
+    pub world: World,
+    pub links: Vec<L>,
+}
+
+/// What was prepared of a setup: its world with the links, or nothing, as there is no link for this slot, which is the
+/// lowest such.
+#[derive(Drop)]
+pub enum Prepared<L: Drop> {
+    Missing(u32),
+    Ready(Ready<L>),
+}
 
 /// What a run of a setup leaves.
 #[derive(Drop)]
@@ -30,30 +46,38 @@ pub struct Run<L: Drop> {
     pub links: Vec<L>,
 }
 
-/// What was made of a setup: its run, or nothing, as there is no link for this slot, which is the lowest such.
-#[derive(Drop)]
-pub enum Made<L: Drop> {
-    Missing(u32),
-    Ran(Run<L>),
+/// Prepares a run of a setup by the links that were handed in: for each slot the first one of the setup's kind and that slot.
+pub fn prepare<L: Link>(alloc: Global, setup: Setup, links: Vec<L>) -> Result<Prepared<L>, NoMemory>
+    requires { IsSetup setup }
+    ensures { IfOk result (IsPreparedOf L.state_of setup (map L.state_of links.items)) }
+{
+    let kit = kit(alloc, &setup)?;
+    let world = World::new(alloc, &setup, &kit)?;
+    match choose(alloc, links, kind_of(&setup), world.nodes())? {
+        Chosen::Missing(slot) => Ok(Prepared::Missing(slot)),
+        Chosen::All(chosen) => {
+            let links = begin_all(alloc, &setup, &world, chosen)?;
+            let origin = Origin { setup, kit };
+            Ok(Prepared::Ready(Ready {
+                origin,
+                world,
+                links,
+            }))
+        }
+    }
 }
 
-// The run of a world with its links.
-fn run_with<L: Link>(
-    alloc: Global,
-    setup: Setup,
-    kit: List<Code>,
-    world: World,
-    links: Vec<L>,
-) -> Result<Run<L>, NoMemory>
-    requires says { IsSetup setup }
-    requires world { Stands world (record { setup = setup; kit = kit }) [] }
-    requires count { length links.items ≡ count_of world.slots }
-    ensures { IfOk result (λ r. (handed : ListOf LinkState) → AreChosen (link_kind setup) handed (count_of world.slots) (map L.state_of links.items)
-        → IsRan L.state_of setup handed r) }
+/// Runs what was prepared by one loop, in this thread.
+pub fn run_ready<L: Link>(alloc: Global, ready: Ready<L>) -> Result<Run<L>, NoMemory>
+    requires { (s : SetupValue) × (handed : ListOf LinkState) × IsReady L.state_of s handed ready }
+    ensures { IfOk result (λ r. (s : SetupValue) (handed : ListOf LinkState) → IsReady L.state_of s handed ready → IsRan false L.state_of s handed r) }
 {
-    let links = begin_all(alloc, &setup, &world, links)?;
-    let turns = setup.turns;
-    let origin = Origin { setup, kit };
+    let Ready {
+        origin,
+        world,
+        links,
+    } = ready;
+    let turns = origin.setup.turns;
     let ran = run_fresh(alloc, &origin, world, links, &origin.kit, turns)?;
     Ok(Run {
         setup: origin.setup,
@@ -64,15 +88,45 @@ fn run_with<L: Link>(
     })
 }
 
-/// Runs a setup by the links that were handed in: for each slot the first one of the setup's kind and that slot.
-pub fn run_setup<L: Link>(alloc: Global, setup: Setup, links: Vec<L>) -> Result<Made<L>, NoMemory>
-    requires { IsSetup setup }
-    ensures { IfOk result (IsMadeOf L.state_of setup (map L.state_of links.items)) }
+/// Runs what was prepared by several workers, each a thread of its own. Their turns come in some order that is none of the
+/// rounds.
+pub fn work_ready<L, G, R>(
+    rt: &R,
+    alloc: Global,
+    ready: Ready<L>,
+    workers: u32,
+    gate: &G,
+) -> Result<Run<L>, NoMemory>
+where
+    L: Link + Send,
+    G: Gate + Sync + 'static,
+    R: Threads + Wait + Sync + RandomSource + AllocGlobal,
+    requires ready { (s : SetupValue) × (handed : ListOf LinkState) × IsReady L.state_of s handed ready }
+    requires workers { (1 ≤ workers) × (workers ≤ 8) }
+    ensures { IfOk result (λ r. (s : SetupValue) (handed : ListOf LinkState) → IsReady L.state_of s handed ready → IsRan true L.state_of s handed r) }
 {
-    let kit = kit(alloc, &setup)?;
-    let world = World::new(alloc, &setup, &kit)?;
-    match choose(alloc, links, kind_of(&setup), world.nodes())? {
-        Chosen::Missing(slot) => Ok(Made::Missing(slot)),
-        Chosen::All(chosen) => Ok(Made::Ran(run_with(alloc, setup, kit, world, chosen)?)),
-    }
+    let Ready {
+        origin,
+        world,
+        links,
+    } = ready;
+    let turns = origin.setup.turns;
+    let worked = work_fresh(
+        rt,
+        alloc,
+        &origin,
+        world,
+        links,
+        &origin.kit,
+        turns,
+        workers,
+        gate,
+    )?;
+    Ok(Run {
+        setup: origin.setup,
+        world: worked.machine,
+        ended: worked.out.ended,
+        journal: worked.journal,
+        links: worked.links,
+    })
 }

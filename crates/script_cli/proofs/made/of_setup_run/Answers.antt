@@ -1,12 +1,15 @@
--- A script that was run has what is due of its run.
+-- A world that stands ready is left to run, and what is due of its run is due for the script.
 use Rattle.std.proofs.Common.{map, subst}
-use Rattle.hub.proofs.Results.{if_ok}
-use Rattle.script_runs.specs.Runs.{IsMadeOf}
+use Rattle.script_runs.specs.Runs.{IsPreparedOf}
 use Rattle.script_cli.specs.Due.{Ran}
 use Rattle.script_cli.proofs.made.of_setup_run.Goals as goal
 
-pub returns-in-Ran : goal.returns-in-Ran
-returns-in-Ran g c =
+pub returns-in-Ready : goal.returns-in-Ready
+returns-in-Ready g c =
     let handed = map g.L.Link.state_of c.args.links.items in
-    let ran = subst (IsMadeOf g.L.Link.state_of c.args.setup handed) c.in-Ran.is c.in_ok-slot.ensures in
-    if_ok c.of_run.result _ _ (λ o e. Ran c.requires.runs (e c.args.setup handed ran)) c.of_run.ensures
+    record {
+      script = c.args.setup;
+      setup = c.requires.says;
+      stands = subst (IsPreparedOf g.L.Link.state_of c.args.setup handed) c.in-Ready.is c.in_ok-slot.ensures;
+      due = λ d run. Ran c.requires.runs run;
+    }
