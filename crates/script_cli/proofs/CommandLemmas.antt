@@ -1,6 +1,9 @@
 -- Words are one command, and which script it has.
-use Rattle.std.proofs.Common.{◌≡◌, ℕ, Bool, true, false, List, refl, sym, ◌∙◌, Option, None, Some}
+use Rattle.std.proofs.Common.{◌≡◌, ◌⊎◌, ℕ, Bool, true, false, List, refl, sym, ap, ◌∙◌, subst, inl, inr, Option, None, Some}
 use Rattle.script.specs.declared.setup.Setup.{Setup}
+use Rattle.script.specs.Meaning.{said_by}
+use Rattle.lab.specs.Generated.{generated}
+use Rattle.script_cli.specs.declared.words.Seeded.{Seeded}
 use Rattle.script_cli.specs.declared.words.Command.{Command}
 use Rattle.script_cli.specs.declared.words.Command.TheVariants.{Run, Serial, Check, Trace, Gen, Big}
 use Rattle.script_cli.specs.Words.{reads}
@@ -33,3 +36,13 @@ own_generated Check left s is = absurd is
 own_generated Trace left s is = absurd is
 own_generated (Gen seeded) left s is = is
 own_generated (Big seeded) left s is = is
+
+-- a command that makes its script reads nothing, and its script is that of its seed
+pub unread : (c : Command) (seeded : Seeded) → (c ≡ Gen seeded) ⊎ (c ≡ Big seeded) → reads c ≡ false
+unread c seeded (inl is) = ap reads is
+unread c seeded (inr is) = ap reads is
+
+pub is_generated : (c : Command) (seeded : Seeded) (s : Setup) → (c ≡ Gen seeded) ⊎ (c ≡ Big seeded) →
+    said_by s ≡ generated seeded.seed seeded.size → IsGeneratedFor c s
+is_generated c seeded s (inl is) says = subst (λ (k : Command). IsGeneratedFor k s) (sym is) says
+is_generated c seeded s (inr is) says = subst (λ (k : Command). IsGeneratedFor k s) (sym is) says

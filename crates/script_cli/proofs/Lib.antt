@@ -1,6 +1,7 @@
 pub mod WordsLemmas
 pub mod DifferLemmas
 pub mod CommandLemmas
+pub mod SeveralLemmas
 pub mod TaskLemmas
 pub mod AnswerLemmas
 pub mod Completeness

@@ -1,5 +1,5 @@
 -- What the words of a call ask for: the table of its commands.
-use Rattle.std.specs.Prelude.{ℕ, ◌+◌, ◌∸◌, ◌≤◌, ⊤, Bool, true, false, not, ◌&&◌, ◌==◌, nat_lt, nat_le, length, take, drop, if◌then◌else◌, List, [], ◌∷◌, codes, Option, Some, None, is_some}
+use Rattle.std.specs.Prelude.{ℕ, ◌+◌, ◌-◌, ◌≤◌, ⊤, Bool, true, false, not, ◌&&◌, ◌==◌, nat_lt, nat_le, length, take, drop, if◌then◌else◌, List, [], ◌∷◌, codes, Option, Some, None, is_some}
 use Rattle.std.specs.Option.{option_map, option_and_then}
 use Rattle.std.specs.List.{list_all, position}
 use Rattle.std.specs.Str.{bytes_eq}
@@ -87,7 +87,7 @@ seeded_of rest = None
 
 -- how many workers a word asks for: one digit, from 1 to 8
 abbrev pub digit_said : ℕ → Option ℕ
-digit_said digit = if nat_le 49 digit && nat_le digit 56 then Some (digit ∸ 48) else None
+digit_said digit = if nat_le 49 digit && nat_le digit 56 then Some (digit - 48) else None
 
 abbrev pub workers_said : List ℕ → Option ℕ
 workers_said (digit ∷ []) = digit_said digit

@@ -1,8 +1,7 @@
 -- A text that is a script has what is due for it.
 use Rattle.std.proofs.Common.{map}
-use Rattle.hub.proofs.Results.{if_ok}
-use Rattle.script_cli.specs.Due.{Of_script}
-use Rattle.script_cli.proofs.TaskLemmas.{task_map}
+use Rattle.script_cli.specs.Due.{IsTextDue, Of_script}
+use Rattle.script_cli.proofs.TaskLemmas.{if_task}
 use Rattle.script_cli.proofs.made.of_text.Goals as goal
 
 pub of_setup-requires : goal.of_setup-requires
@@ -10,10 +9,11 @@ of_setup-requires g c = record { says = c.in-Ok.ensures.within; range = c.requir
 
 pub returns-in-Ok : goal.returns-in-Ok
 returns-in-Ok g c =
+    let command = c.args.command.now in
     let handed = map g.L.Link.state_of c.args.links.items in
-    if_ok c.of_setup.result _ _ (task_map g.L.Link.state_of c.args.command.now handed _ _ (λ d due. Of_script (record {
+    if_task g.L.Link.state_of command handed _ (λ d. IsTextDue command handed d c.args.text.now) (λ d due. Of_script (record {
       script = c.in-Ok.setup;
       setup = c.in-Ok.ensures.within;
       is = record { short = c.requires.short; says = c.in-Ok.ensures.says };
       due = due;
-    }))) c.of_setup.ensures
+    })) c.of_setup.result c.of_setup.ensures

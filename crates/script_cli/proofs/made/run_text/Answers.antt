@@ -9,6 +9,7 @@ use Rattle.script.specs.Canonical.{canonical_script}
 use Rattle.script_runs.specs.Runs.{world_for}
 use Rattle.world.specs.MachineLaws.{in_use}
 use Rattle.report.specs.Text.{report_of, brief_of}
+use Rattle.script_cli.specs.Words.{is_shared}
 use Rattle.script_cli.specs.Due.{rows_for, text_of_run}
 use Rattle.script_cli.proofs.EventNodes.{events_are_numbered}
 use Rattle.script_cli.proofs.RunTexts.{is_reported}
@@ -18,7 +19,7 @@ pub traced-requires : goal.traced-requires
 traced-requires g c =
     let ran = c.requires in
     All-same (λ e. IsNumbered (node_of e)) c.as_slice.result.now c.args.run.now.journal.items c.as_slice.ensures.value
-    (events_are_numbered ran.0 ran.2 ran.0.turns c.args.run.now.journal.items ran.3.whole.rounds.turn_by_turn)
+    (events_are_numbered ran.0 ran.2 ran.0.turns c.args.run.now.journal.items (ran.3.whole.rounds (ap is_shared c.in-Trace.is)).turn_by_turn)
 
 pub returns-in-Trace : goal.returns-in-Trace
 returns-in-Trace g c =
