@@ -1,5 +1,6 @@
 //! Calls of the program one by one.
 
+use crate::by_workers::OF_WORKERS;
 use crate::generated::OF_SEVEN_AND_ONE;
 use crate::printed::{CHECKS, TRACES};
 use crate::refusals::{OF_TEXTS, OF_THE_OUTSIDE, OF_TRANSACTIONS, OF_WORDS};
@@ -10,7 +11,7 @@ use std::test::Fail;
 
 #[test]
 fn calls_are_answered(rt: HostRuntime) -> Result<(), Fail> {
-    let tables: [&'static [Row]; 11] = [
+    let tables: [&'static [Row]; 12] = [
         &OF_ONE_SCRIPT,
         &OF_SCRIPTS,
         &OF_FORMS,
@@ -22,10 +23,11 @@ fn calls_are_answered(rt: HostRuntime) -> Result<(), Fail> {
         &TRACES,
         &OF_SEVEN_AND_ONE,
         &SERIALS,
+        &OF_WORKERS,
     ];
     for table in tables {
         for row in table {
-            let answer = row.answer(rt.alloc())?;
+            let answer = row.answer(&rt, rt.alloc())?;
             let taken = answer.taken.as_slice();
             let text = str::from_utf8(taken).unwrap_or("no text");
             assert_eq!(rt; answer.status, row.status, "{}", row.shows);

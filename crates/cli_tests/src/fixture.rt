@@ -6,8 +6,12 @@ use morty_base::{List, NoMemory};
 use morty_io::{MemSink, MemSource};
 use msg::Event;
 use net_core::Link;
-use script_cli::run_here;
-use std::alloc::Global;
+use node_future::{Gate, OpenGate};
+use script_cli::{run_cli, run_here, wants_workers};
+use std::alloc::{AllocGlobal, Global};
+use std::random::RandomSource;
+use std::sync::Wait;
+use std::thread::Threads;
 
 /// The script that adds 1 to a cell that holds 4.
 pub const SCRIPT: &[u8] = b"morty 1 replicas 1 table x first x[1] 4 \
@@ -99,14 +103,36 @@ pub fn listed(alloc: Global, words: &[&[u8]]) -> Result<List<List<u8>>, NoMemory
     Ok(list)
 }
 
-/// Calls the program over memory.
-pub fn call(
+/// Calls the program as `main` does, over memory.
+pub fn call<R>(
+    rt: &R,
     alloc: Global,
     words: &[List<u8>],
     text: &[u8],
     outside: &Outside,
     handed: &Handed,
-) -> Result<Answer, NoMemory> {
+) -> Result<Answer, NoMemory>
+where
+    R: Threads + Wait + Sync + RandomSource + AllocGlobal,
+{
+    call_by(rt, alloc, words, text, outside, handed, false, &OpenGate)
+}
+
+/// The same with a gate, or in this thread alone where the words allow it.
+pub fn call_by<G, R>(
+    rt: &R,
+    alloc: Global,
+    words: &[List<u8>],
+    text: &[u8],
+    outside: &Outside,
+    handed: &Handed,
+    here: bool,
+    gate: &G,
+) -> Result<Answer, NoMemory>
+where
+    G: Gate + Sync + 'static,
+    R: Threads + Wait + Sync + RandomSource + AllocGlobal,
+{
     let mut links: Vec<Box<dyn Link + Send>> = Vec::new(alloc);
     match handed {
         Handed::Slots(slots) => {
@@ -135,7 +161,11 @@ pub fn call(
         outside.most.max(1),
         List::from_slice(alloc, outside.writes)?,
     )?;
-    let exit = run_here(alloc, words, &mut src, &mut out, links);
+    let exit = if here && !wants_workers(words) {
+        run_here(alloc, words, &mut src, &mut out, links)
+    } else {
+        run_cli(rt, alloc, words, &mut src, &mut out, links, gate)
+    };
     Ok(Answer {
         status: exit.status,
         taken: List::from_slice(alloc, out.taken())?,

@@ -75,10 +75,10 @@ fn generated_scripts_are_checked_unchanged(rt: HostRuntime) -> Result<(), Fail> 
     let check = listed(alloc, CHECK.words)?;
     for words in &READ_BACK {
         let words = listed(alloc, *words)?;
-        let made = call(alloc, words.as_slice(), b"", &SOUND, &EACH_SLOT)?;
+        let made = call(&rt, alloc, words.as_slice(), b"", &SOUND, &EACH_SLOT)?;
         assert_eq!(rt; made.status, 0);
         let text = made.taken.as_slice();
-        let read = call(alloc, check.as_slice(), text, &SOUND, &EACH_SLOT)?;
+        let read = call(&rt, alloc, check.as_slice(), text, &SOUND, &EACH_SLOT)?;
         assert_eq!(rt; read.status, 0);
         assert_eq!(rt; read.taken.as_slice(), text);
     }

@@ -32,14 +32,28 @@ fn a_script_is_whole_and_not_too_long(rt: HostRuntime) -> Result<(), Fail> {
     let run = listed(alloc, &[b"run".as_slice()])?;
     for length in 0..SCRIPT.len() {
         let text = stretched(alloc, length)?;
-        let answer = call(alloc, run.as_slice(), text.as_slice(), &SOUND, &EACH_SLOT)?;
+        let answer = call(
+            &rt,
+            alloc,
+            run.as_slice(),
+            text.as_slice(),
+            &SOUND,
+            &EACH_SLOT,
+        )?;
         assert_eq!(rt; answer.status, 3, "of {length}");
         assert!(rt; answer.journal.is_empty(), "of {length}");
     }
     for (words, length, status, taken) in &LENGTHS {
         let words = listed(alloc, *words)?;
         let text = stretched(alloc, *length)?;
-        let answer = call(alloc, words.as_slice(), text.as_slice(), &SOUND, &EACH_SLOT)?;
+        let answer = call(
+            &rt,
+            alloc,
+            words.as_slice(),
+            text.as_slice(),
+            &SOUND,
+            &EACH_SLOT,
+        )?;
         assert_eq!(rt; answer.status, *status, "of {length}");
         assert_eq!(rt; answer.taken.as_slice(), *taken, "of {length}");
     }

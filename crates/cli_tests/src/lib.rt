@@ -1,9 +1,12 @@
 //! Tests over several crates, by their public calls alone: the top call over memory (scripts that are run, traced, checked
-//! and generated, with the links of the program and with others), and the texts of rows. Nothing stands on this crate.
+//! and generated, with the links of the program and with others, by one worker and by several), and the texts of rows.
+//! Nothing stands on this crate.
 #![tactic(auto)]
 
 #[cfg(test)]
 mod answers;
+#[cfg(test)]
+mod by_workers;
 #[cfg(test)]
 mod fixture;
 #[cfg(test)]

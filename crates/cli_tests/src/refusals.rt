@@ -5,7 +5,7 @@ use crate::rows::Taken::All;
 use crate::rows::{CHECK, REFUSED, RUN, Row, UNRUN};
 
 /// Words that are no command for the script.
-const BAD_WORDS: Row = Row {
+pub const BAD_WORDS: Row = Row {
     status: 2,
     taken: All(BAD_COMMAND),
     ..UNRUN

@@ -1,9 +1,13 @@
 //! Rows of the tables: a call of the program, and what it answers.
 
-use crate::fixture::{Answer, EACH_SLOT, Handed, Outside, SCRIPT, SOUND, call, listed};
+use crate::fixture::{Answer, EACH_SLOT, Handed, Outside, SCRIPT, SOUND, call_by, listed};
 use morty_base::NoMemory;
 use msg::Event;
-use std::alloc::Global;
+use node_future::OpenGate;
+use std::alloc::{AllocGlobal, Global};
+use std::random::RandomSource;
+use std::sync::Wait;
+use std::thread::Threads;
 
 /// The words of a call.
 pub type Words = &'static [&'static [u8]];
@@ -37,6 +41,8 @@ pub struct Row {
     pub text: &'static [u8],
     pub outside: Outside,
     pub handed: Handed,
+    /// Whether it goes through the call that runs in this thread alone.
+    pub here: bool,
     pub status: u8,
     pub taken: Taken,
     /// The events that come back, where the row tells them.
@@ -52,6 +58,7 @@ pub const RUN: Row = Row {
     text: SCRIPT,
     outside: SOUND,
     handed: EACH_SLOT,
+    here: false,
     status: 0,
     taken: Taken::All(b""),
     events: None,
@@ -75,14 +82,20 @@ pub const CHECK: Row = Row {
 
 impl Row {
     /// What the program answers.
-    pub fn answer(&self, alloc: Global) -> Result<Answer, NoMemory> {
+    pub fn answer<R>(&self, rt: &R, alloc: Global) -> Result<Answer, NoMemory>
+    where
+        R: Threads + Wait + Sync + RandomSource + AllocGlobal,
+    {
         let words = listed(alloc, self.words)?;
-        call(
+        call_by(
+            rt,
             alloc,
             words.as_slice(),
             self.text,
             &self.outside,
             &self.handed,
+            self.here,
+            &OpenGate,
         )
     }
 }

@@ -29,9 +29,17 @@ pub const EVENTS: [Event; 14] = [
 ];
 
 /// Runs of one script, by its words, its links and its events.
-pub static OF_ONE_SCRIPT: [Row; 7] = [
+pub static OF_ONE_SCRIPT: [Row; 8] = [
     Row {
         shows: "one transaction runs in nine events",
+        taken: All(REPORT),
+        events: Some(&EVENTS),
+        links: Some(2),
+        ..RUN
+    },
+    Row {
+        shows: "and so in this thread alone",
+        here: true,
         taken: All(REPORT),
         events: Some(&EVENTS),
         links: Some(2),

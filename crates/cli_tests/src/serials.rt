@@ -2,10 +2,13 @@
 
 use crate::fixture::{EACH_SLOT, Handed, SOUND, TWO, call, listed};
 use crate::rows::Taken::All;
-use crate::rows::{RUN, Row, UNRUN, Words};
+use crate::rows::{Row, UNRUN, Words};
 use morty_base::{List, NoMemory};
-use std::alloc::Global;
+use std::alloc::{AllocGlobal, Global};
+use std::random::RandomSource;
+use std::sync::Wait;
 use std::test::Fail;
+use std::thread::Threads;
 
 /// The serial run of two clients' transactions.
 const SERIAL: Row = Row {
@@ -112,28 +115,43 @@ fn words_of(alloc: Global, report: &[u8]) -> Result<List<List<u8>>, NoMemory> {
 }
 
 /// Whether what was committed is what the serial run of its transactions at its versions gives.
-pub fn is_serial(alloc: Global, script: &[u8], report: &[u8]) -> Result<bool, NoMemory> {
+pub fn is_serial<R>(rt: &R, alloc: Global, script: &[u8], report: &[u8]) -> Result<bool, NoMemory>
+where
+    R: Threads + Wait + Sync + RandomSource + AllocGlobal,
+{
     let words = words_of(alloc, report)?;
-    let serial = call(alloc, words.as_slice(), script, &SOUND, &Handed::Slots(0))?;
+    let serial = call(
+        rt,
+        alloc,
+        words.as_slice(),
+        script,
+        &SOUND,
+        &Handed::Slots(0),
+    )?;
     let committed = as_serial(alloc, report)?;
     Ok(serial.status == 0 && serial.taken.as_slice() == committed.as_slice())
 }
 
-/// A script, or the words that generate it; the links of its run, and how its report begins.
+/// A script, or the words that generate it; the words and the links of its run, the statuses that this may have, and how
+/// its report begins.
 struct Compared {
     shows: &'static str,
     generated: Option<Words>,
     text: &'static [u8],
+    words: Words,
     handed: Handed,
+    statuses: &'static [u8],
     front: &'static [u8],
 }
 
-static COMPARED: [Compared; 3] = [
+static COMPARED: [Compared; 5] = [
     Compared {
         shows: "a large run over a seeded net, with a client that is stopped",
         generated: Some(&[b"gen", b"7", b"160"]),
         text: b"",
+        words: &[b"run"],
         handed: EACH_SLOT,
+        statuses: &[0],
         front: b"",
     },
     Compared {
@@ -142,7 +160,9 @@ static COMPARED: [Compared; 3] = [
         text: b"morty 1 replicas 1 gap 20 policy abort table x first x[1] 4 \
             program inc { read a x[1]; write x[1] a + 1; print a } \
             client 1 { inc at 10 } client 2 { inc at 20 } end",
+        words: &[b"run"],
         handed: EACH_SLOT,
+        statuses: &[0],
         front: b"commit 10.1 txn 1.1 try 1 exec 0 end done\n\
             read x[1] 4\n\
             out 4\n\
@@ -153,17 +173,40 @@ static COMPARED: [Compared; 3] = [
         shows: "the newest envelopes go first and twice",
         generated: None,
         text: TWO,
+        words: &[b"run"],
         handed: Handed::NewestTwice,
+        statuses: &[0],
         front: b"commit ",
+    },
+    Compared {
+        shows: "two workers run two clients of one cell",
+        generated: None,
+        text: TWO,
+        words: &[b"run", b"--workers", b"2"],
+        handed: EACH_SLOT,
+        statuses: &[0, 1],
+        front: b"commit ",
+    },
+    Compared {
+        shows: "eight workers run transfers over a seeded net",
+        generated: Some(&[b"gen", b"7", b"40"]),
+        text: b"",
+        words: &[b"run", b"--workers", b"8"],
+        handed: EACH_SLOT,
+        statuses: &[0, 1],
+        front: b"",
     },
 ];
 
 /// The script that is compared.
-fn script_of(alloc: Global, row: &Compared) -> Result<List<u8>, NoMemory> {
+fn script_of<R>(rt: &R, alloc: Global, row: &Compared) -> Result<List<u8>, NoMemory>
+where
+    R: Threads + Wait + Sync + RandomSource + AllocGlobal,
+{
     match row.generated {
         Some(words) => {
             let words = listed(alloc, words)?;
-            Ok(call(alloc, words.as_slice(), b"", &SOUND, &EACH_SLOT)?.taken)
+            Ok(call(rt, alloc, words.as_slice(), b"", &SOUND, &EACH_SLOT)?.taken)
         }
         None => List::from_slice(alloc, row.text),
     }
@@ -173,21 +216,22 @@ fn script_of(alloc: Global, row: &Compared) -> Result<List<u8>, NoMemory> {
 #[test]
 fn reports_are_serial(rt: HostRuntime) -> Result<(), Fail> {
     let alloc = rt.alloc();
-    let run = listed(alloc, RUN.words)?;
     for row in &COMPARED {
-        let script = script_of(alloc, row)?;
+        let script = script_of(&rt, alloc, row)?;
+        let words = listed(alloc, row.words)?;
         let answer = call(
+            &rt,
             alloc,
-            run.as_slice(),
+            words.as_slice(),
             script.as_slice(),
             &SOUND,
             &row.handed,
         )?;
         let report = answer.taken.as_slice();
-        assert_eq!(rt; answer.status, 0, "{}", row.shows);
+        assert!(rt; row.statuses.contains(&answer.status), "{}", row.shows);
         assert!(rt; report.starts_with(row.front), "{}", row.shows);
         assert!(rt;
-            is_serial(alloc, script.as_slice(), report)?,
+            is_serial(&rt, alloc, script.as_slice(), report)?,
             "{}",
             row.shows
         );
