@@ -23,8 +23,8 @@ term-Neg a = ap term (sym (expr.rolls-Neg a)) ∙ fold-roll-Expr Term term_step 
 pub term-Not : (a : Expr) → term (expr.Not a) ≡ Not (term a)
 term-Not a = ap term (sym (expr.rolls-Not a)) ∙ fold-roll-Expr Term term_step (Expr-F.Not a)
 
-pub term-Bin : (op : BinOp) (a b : Expr) → term (expr.Bin op a b) ≡ Bin op (term a) (term b)
-term-Bin op a b = ap term (sym (expr.rolls-Bin op a b)) ∙ fold-roll-Expr Term term_step (Expr-F.Bin op a b)
+pub term-Bin : (op : BinOp) (a b : Expr) → term (expr.Bin op (a, b)) ≡ Bin op (term a) (term b)
+term-Bin op a b = ap term (sym (expr.rolls-Bin op (a, b))) ∙ fold-roll-Expr Term term_step (Expr-F.Bin op (a, b))
 
 pub command-Let : (v : ℕ) (e : Expr) → command (stmt.Let v e) ≡ Let v (term e)
 command-Let v e = ap command (sym (stmt.rolls-Let v e)) ∙ fold-roll-Stmt Command Commands command_step commands_step (Stmt-F.Let v e)

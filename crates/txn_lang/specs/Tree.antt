@@ -47,7 +47,7 @@ term_step (Expr-F.Num n) = Num n
 term_step (Expr-F.Local v) = Local v
 term_step (Expr-F.Neg a) = Neg a
 term_step (Expr-F.Not a) = Not a
-term_step (Expr-F.Bin op a b) = Bin op a b
+term_step (Expr-F.Bin op operands) = Bin op operands.0 operands.1
 
 -- the tree of an expression
 abbrev pub term : Expr → Term

@@ -23,9 +23,10 @@ pub fn eval(e: &Expr, locals: &[i64]) -> Result<i64, EvalFault>
             .checked_neg()
             .ok_or(EvalFault::Overflow),
         Expr::Not(a) => Ok(truth(eval(a.get(), locals)? == 0)),
-        Expr::Bin(op, a, b) => {
-            let x = eval(a.get(), locals)?;
-            let y = eval(b.get(), locals)?;
+        Expr::Bin(op, operands) => {
+            let (a, b) = operands.get();
+            let x = eval(a, locals)?;
+            let y = eval(b, locals)?;
             apply(*op, x, y)
         }
     }

@@ -64,7 +64,7 @@ pub fn level(e: &Expr) -> u64
     match e {
         Expr::Num(_) | Expr::Local(_) => 7,
         Expr::Neg(_) | Expr::Not(_) => 6,
-        Expr::Bin(op, _, _) => operator_level(*op),
+        Expr::Bin(op, _) => operator_level(*op),
     }
 }
 
@@ -90,9 +90,10 @@ pub fn tokens(e: &Expr) -> u64
             let operand = with_parentheses(tokens(a.get()), a.get(), 6);
             (1 + operand).min(PLENTY)
         }
-        Expr::Bin(op, a, b) => {
-            let left = with_parentheses(tokens(a.get()), a.get(), left_level(*op));
-            let right = with_parentheses(tokens(b.get()), b.get(), operator_level(*op) + 1);
+        Expr::Bin(op, operands) => {
+            let (a, b) = operands.get();
+            let left = with_parentheses(tokens(a), a, left_level(*op));
+            let right = with_parentheses(tokens(b), b, operator_level(*op) + 1);
             (left + 1 + right).min(PLENTY)
         }
     }
@@ -182,7 +183,10 @@ fn uses_below(e: &Expr, locals: usize) -> bool
         Expr::Num(_) => true,
         Expr::Local(v) => usize::from(*v) < locals,
         Expr::Neg(a) | Expr::Not(a) => uses_below(a.get(), locals),
-        Expr::Bin(_, a, b) => uses_below(a.get(), locals) && uses_below(b.get(), locals),
+        Expr::Bin(_, operands) => {
+            let (a, b) = operands.get();
+            uses_below(a, locals) && uses_below(b, locals)
+        }
     }
 }
 

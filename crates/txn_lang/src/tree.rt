@@ -22,14 +22,15 @@ pub enum BinOp {
     Or,
 }
 
-/// An expression. A number that is written is not negative, and a local stands by its number.
+/// An expression. A number that is written is not negative, and a local stands by its number. The two operands of an
+/// operator share a box.
 #[derive(Debug, Drop)]
 pub enum Expr {
     Num(i64),
     Local(u16),
     Neg(Box<Expr>),
     Not(Box<Expr>),
-    Bin(BinOp, Box<Expr>, Box<Expr>),
+    Bin(BinOp, Box<(Expr, Expr)>),
 }
 
 impl Expr {
@@ -41,10 +42,10 @@ impl Expr {
             Expr::Local(v) => Expr::Local(*v),
             Expr::Neg(a) => Expr::Neg(Box::new(alloc, a.get().copy(alloc)?)?),
             Expr::Not(a) => Expr::Not(Box::new(alloc, a.get().copy(alloc)?)?),
-            Expr::Bin(op, a, b) => {
-                let a = Box::new(alloc, a.get().copy(alloc)?)?;
-                let b = Box::new(alloc, b.get().copy(alloc)?)?;
-                Expr::Bin(*op, a, b)
+            Expr::Bin(op, operands) => {
+                let (a, b) = operands.get();
+                let copies = (a.copy(alloc)?, b.copy(alloc)?);
+                Expr::Bin(*op, Box::new(alloc, copies)?)
             }
         })
     }

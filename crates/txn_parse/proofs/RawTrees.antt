@@ -26,8 +26,8 @@ term-Neg a = ap term (sym (expr.rolls-Neg a)) ∙ fold-roll-RawExpr Term term_st
 pub term-Not : (a : RawExpr) → term (expr.Not a) ≡ Not (term a)
 term-Not a = ap term (sym (expr.rolls-Not a)) ∙ fold-roll-RawExpr Term term_step (RawExpr-F.Not a)
 
-pub term-Bin : (op : BinOp) (a b : RawExpr) → term (expr.Bin op a b) ≡ Bin op (term a) (term b)
-term-Bin op a b = ap term (sym (expr.rolls-Bin op a b)) ∙ fold-roll-RawExpr Term term_step (RawExpr-F.Bin op a b)
+pub term-Bin : (op : BinOp) (a b : RawExpr) → term (expr.Bin op (a, b)) ≡ Bin op (term a) (term b)
+term-Bin op a b = ap term (sym (expr.rolls-Bin op (a, b))) ∙ fold-roll-RawExpr Term term_step (RawExpr-F.Bin op (a, b))
 
 pub command-Let : (v : Token) (e : RawExpr) → command (stmt.Let v e) ≡ Let v (term e)
 command-Let v e = ap command (sym (stmt.rolls-Let v e)) ∙ fold-roll-RawStmt Command Commands command_step commands_step (RawStmt-F.Let v e)

@@ -25,7 +25,7 @@ term_step (RawExpr-F.Num n) = Num n
 term_step (RawExpr-F.Local v) = Local v
 term_step (RawExpr-F.Neg a) = Neg a
 term_step (RawExpr-F.Not a) = Not a
-term_step (RawExpr-F.Bin op a b) = Bin op a b
+term_step (RawExpr-F.Bin op operands) = Bin op operands.0 operands.1
 
 -- the tree of an expression
 abbrev pub term : RawExpr → Term

@@ -10,7 +10,7 @@ pub enum RawExpr {
     Local(Token),
     Neg(Box<RawExpr>),
     Not(Box<RawExpr>),
-    Bin(BinOp, Box<RawExpr>, Box<RawExpr>),
+    Bin(BinOp, Box<(RawExpr, RawExpr)>),
 }
 
 /// A statement: `Let` has the local and its value, `Read` the local, the table and the index, `Write` the table,

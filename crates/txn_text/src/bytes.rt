@@ -19,7 +19,11 @@ pub fn is_blank(byte: u8) -> bool
 pub fn is_symbol(byte: u8) -> bool
     ensures { result ≡ is_symbol byte }
 {
-    b";{}()[].+-*/%=<>".contains(&byte)
+    matches!(
+        byte,
+        b';' | b'{' | b'}' | b'(' | b')' | b'[' | b']' | b'.' | b'+' | b'-' | b'*' | b'/' | b'%'
+            | b'=' | b'<' | b'>'
+    )
 }
 
 /// Whether the two bytes are one symbol.
