@@ -13,7 +13,7 @@ use txn_lang::{BinOp, Block, Expr, Prog, Stmt, make_prog};
 fn add(alloc: Global, a: Expr, b: Expr) -> Result<Expr, NoMemory>
     ensures { IfOk result (λ e. term e ≡ Bin BinOp.Add (term a) (term b)) }
 {
-    Ok(Expr::Bin(BinOp::Add, Box::new(alloc, a)?, Box::new(alloc, b)?))
+    Ok(Expr::Bin(BinOp::Add, Box::new(alloc, (a, b))?))
 }
 
 fn block(stmts: Vec<Stmt>) -> Block

@@ -21,11 +21,8 @@ fn number(n: u32) -> Expr
 fn with_number(alloc: Global, op: BinOp, local: u16, n: u32) -> Result<Expr, NoMemory>
     ensures { IfOk result (λ e. term e ≡ Bin op (Local local) (number n)) }
 {
-    Ok(Expr::Bin(
-        op,
-        Box::new(alloc, Expr::Local(local))?,
-        Box::new(alloc, number(n))?,
-    ))
+    let operands = (Expr::Local(local), number(n));
+    Ok(Expr::Bin(op, Box::new(alloc, operands)?))
 }
 
 fn block(stmts: Vec<Stmt>) -> Block

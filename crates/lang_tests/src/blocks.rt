@@ -31,7 +31,7 @@ fn shape(text: &[u8], stmt: &RawStmt) -> &'static str {
     match stmt {
         RawStmt::Let(a, RawExpr::Num(_)) if is_text(text, *a, b"a") => "let",
         RawStmt::Read(_, x, RawExpr::Local(_)) if is_text(text, *x, b"x") => "read",
-        RawStmt::Write(_, RawExpr::Num(_), RawExpr::Bin(BinOp::Add, _, _)) => "write",
+        RawStmt::Write(_, RawExpr::Num(_), RawExpr::Bin(BinOp::Add, _)) => "write",
         RawStmt::Print(RawExpr::Local(_)) => "print",
         RawStmt::If(_, a, b) if a.stmts.len() == 1 && b.stmts.is_empty() => "if",
         RawStmt::If(_, a, b) if a.stmts.len() == 1 && b.stmts.len() == 1 => "if else",

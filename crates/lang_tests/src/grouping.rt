@@ -42,11 +42,12 @@ fn put_expr(out: &mut Vec<u8>, text: &[u8], e: &RawExpr) -> Result<(), AllocErro
             put_expr(out, text, a.get())?;
             out.extend_from_slice(b")")
         }
-        RawExpr::Bin(op, a, b) => {
+        RawExpr::Bin(op, operands) => {
+            let (a, b) = operands.get();
             out.extend_from_slice(b"(")?;
-            put_expr(out, text, a.get())?;
+            put_expr(out, text, a)?;
             out.extend_from_slice(sign(*op).as_bytes())?;
-            put_expr(out, text, b.get())?;
+            put_expr(out, text, b)?;
             out.extend_from_slice(b")")
         }
     }

@@ -55,15 +55,12 @@ fn rows() -> &'static [Row] {
 fn of_locals(alloc: Global, op: BinOp, faulty: bool) -> Result<Expr, NoMemory>
     ensures { IfOk result (λ e. UsesBelow (term e) 2) }
 {
-    let x = Box::new(alloc, Expr::Local(0))?;
     let y = if faulty {
-        let one = Box::new(alloc, Expr::Num(1))?;
-        let zero = Box::new(alloc, Expr::Num(0))?;
-        Expr::Bin(BinOp::Div, one, zero)
+        Expr::Bin(BinOp::Div, Box::new(alloc, (Expr::Num(1), Expr::Num(0)))?)
     } else {
         Expr::Local(1)
     };
-    Ok(Expr::Bin(op, x, Box::new(alloc, y)?))
+    Ok(Expr::Bin(op, Box::new(alloc, (Expr::Local(0), y))?))
 }
 
 #[test]

@@ -37,13 +37,13 @@ use Rattle.protocol_runs.specs.SamplePrograms.{inc_tree, walk_tree}
 use Rattle.protocol_runs.specs.QuietRun.{inc_program, quiet_script, quiet_events, IsQuietRun, QuietRun}
 
 -- the tree of its program
-sum : term (expr.Bin Add (expr.Local 0) (expr.Num (pos 1))) ≡ Bin Add (Local 0) (Num (pos 1))
+sum : term (expr.Bin Add (expr.Local 0, expr.Num (pos 1))) ≡ Bin Add (Local 0) (Num (pos 1))
 sum = term-Bin Add (expr.Local 0) (expr.Num (pos 1)) ∙ ap (λ (a : Term). Bin Add a (term (expr.Num (pos 1)))) (term-Local 0) ∙ ap (Bin Add (Local 0)) (term-Num (pos 1))
 
-second : command (stmt.Write 0 (expr.Num (pos 1)) (expr.Bin Add (expr.Local 0) (expr.Num (pos 1)))) ≡ Write 0 (Num (pos 1)) (Bin Add (Local 0) (Num (pos 1)))
+second : command (stmt.Write 0 (expr.Num (pos 1)) (expr.Bin Add (expr.Local 0, expr.Num (pos 1)))) ≡ Write 0 (Num (pos 1)) (Bin Add (Local 0) (Num (pos 1)))
 second =
-    command-Write 0 (expr.Num (pos 1)) (expr.Bin Add (expr.Local 0) (expr.Num (pos 1)))
-    ∙ ap (λ (i : Term). Write 0 i (term (expr.Bin Add (expr.Local 0) (expr.Num (pos 1))))) (term-Num (pos 1)) ∙ ap (Write 0 (Num (pos 1))) sum
+    command-Write 0 (expr.Num (pos 1)) (expr.Bin Add (expr.Local 0, expr.Num (pos 1)))
+    ∙ ap (λ (i : Term). Write 0 i (term (expr.Bin Add (expr.Local 0, expr.Num (pos 1))))) (term-Num (pos 1)) ∙ ap (Write 0 (Num (pos 1))) sum
 
 is_tree : commands inc_program.body ≡ inc_tree
 is_tree =

@@ -21,7 +21,7 @@ inc_program = record {
   body = record {
     stmts =
         stmt.Read 0 0 (expr.Num (pos 1)) ∷
-        stmt.Write 0 (expr.Num (pos 1)) (expr.Bin Add (expr.Local 0) (expr.Num (pos 1))) ∷
+        stmt.Write 0 (expr.Num (pos 1)) (expr.Bin Add (expr.Local 0, expr.Num (pos 1))) ∷
         stmt.Print (expr.Local 0) ∷ [];
   };
 }

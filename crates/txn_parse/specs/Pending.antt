@@ -33,6 +33,8 @@ opened_step (Open-F.Minus up) = Minus up
 opened_step (Open-F.Deny up) = Deny up
 opened_step (Open-F.Paren up) = Paren up
 opened_step (Open-F.Infix a op up) = Infix (term a) op up
+opened_step Open-F.OneParen = Paren Nothing
+opened_step (Open-F.OneInfix a op) = Infix (term a) op Nothing
 
 abbrev pub opened : Open → Opened
 opened = fold-Open Opened opened_step

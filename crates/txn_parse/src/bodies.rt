@@ -45,10 +45,10 @@ fn bound_expr(alloc: Global, text: &[u8], names: &[List<u8>], e: &RawExpr) -> Re
         RawExpr::Local(v) => Expr::Local(place(text, names, *v) as u16),
         RawExpr::Neg(a) => Expr::Neg(Box::new(alloc, bound_expr(alloc, text, names, a.get())?)?),
         RawExpr::Not(a) => Expr::Not(Box::new(alloc, bound_expr(alloc, text, names, a.get())?)?),
-        RawExpr::Bin(op, a, b) => {
-            let a = Box::new(alloc, bound_expr(alloc, text, names, a.get())?)?;
-            let b = Box::new(alloc, bound_expr(alloc, text, names, b.get())?)?;
-            Expr::Bin(*op, a, b)
+        RawExpr::Bin(op, operands) => {
+            let (a, b) = operands.get();
+            let bound = (bound_expr(alloc, text, names, a)?, bound_expr(alloc, text, names, b)?);
+            Expr::Bin(*op, Box::new(alloc, bound)?)
         }
     })
 }

@@ -22,12 +22,17 @@ pub fn place(text: &[u8], names: &[List<u8>], token: Token) -> usize
     names.len()
 }
 
-/// Whether a token's name is one of these.
+/// Whether a token's name is one of these. The newest is asked first.
 pub fn is_known(text: &[u8], names: &[List<u8>], token: Token) -> bool
     ensures { result ≡ is_known names.now (token_bytes text.now token) }
 {
     let name = token_text(text, token);
-    names.iter().any(|known| name == known.as_slice())
+    for known in names.iter().rev() {
+        if name == known.as_slice() {
+            return true;
+        }
+    }
+    false
 }
 
 // The token, unless its name is one of these.
@@ -80,10 +85,13 @@ fn unknown_local(text: &[u8], names: &[List<u8>], e: &RawExpr) -> Option<Token>
         RawExpr::Num(_) => None,
         RawExpr::Local(v) => unless_known(text, names, *v),
         RawExpr::Neg(a) | RawExpr::Not(a) => unknown_local(text, names, a.get()),
-        RawExpr::Bin(_, a, b) => match unknown_local(text, names, a.get()) {
-            Some(v) => Some(v),
-            None => unknown_local(text, names, b.get()),
-        },
+        RawExpr::Bin(_, operands) => {
+            let (a, b) = operands.get();
+            match unknown_local(text, names, a) {
+                Some(v) => Some(v),
+                None => unknown_local(text, names, b),
+            }
+        }
     }
 }
 

@@ -1,8 +1,9 @@
-ghost use Rattle.std.specs.Prelude.{◌≡◌, IfOk};
+ghost use Rattle.std.specs.Prelude.{◌≡◌, nat_le, IfOk};
+ghost use Rattle.txn_lang.specs.Limits.{operator_level};
 ghost use Rattle.std.specs.Option.{option_map};
 ghost use Rattle.txn_parse.specs.Tree.{term, Bin};
 ghost use Rattle.txn_parse.specs.Symbols.{lexeme};
-ghost use Rattle.txn_parse.specs.Pending.{opened, state_of, give, joined, closed, has_paren, compares, goes_on, goes_on_behind, starts_operand, operand_step, operator_step, step, whole, ended};
+ghost use Rattle.txn_parse.specs.Pending.{Paren, opened, state_of, give, joined, closed, has_paren, compares, goes_on, goes_on_behind, starts_operand, operand_step, operator_step, step, whole, ended};
 
 use crate::symbols::Symbol;
 use crate::tree::RawExpr;
@@ -13,7 +14,7 @@ use txn_lang::{BinOp, operator_level};
 use txn_text::Token;
 
 /// What is open in an expression that is being read, the innermost first: a sign, a `not`, a parenthesis, or an
-/// operator behind its left operand.
+/// operator behind its left operand. The parenthesis or the operator with nothing around it takes no box.
 #[derive(Drop)]
 pub enum Open {
     Nothing,
@@ -21,6 +22,8 @@ pub enum Open {
     Deny(Box<Open>),
     Paren(Box<Open>),
     Infix(RawExpr, BinOp, Box<Open>),
+    OneParen,
+    OneInfix(RawExpr, BinOp),
 }
 
 /// An expression that is being read: an operand is awaited, or is there.
@@ -33,7 +36,7 @@ pub enum Reading {
 fn pair(alloc: Global, op: BinOp, a: RawExpr, b: RawExpr) -> Result<RawExpr, NoMemory>
     ensures { IfOk result (λ e. term e ≡ Bin op (term a) (term b)) }
 {
-    Ok(RawExpr::Bin(op, Box::new(alloc, a)?, Box::new(alloc, b)?))
+    Ok(RawExpr::Bin(op, Box::new(alloc, (a, b))?))
 }
 
 /// Signs and `not`s take the operand behind them.
@@ -47,13 +50,29 @@ fn give(held: Open, e: RawExpr, alloc: Global) -> Result<Reading, NoMemory>
     }
 }
 
+// Whether an operator that stands further left takes the operand between them.
+fn is_applied(earlier: BinOp, op: BinOp) -> bool
+    ensures { result ≡ nat_le (operator_level op) (operator_level earlier) }
+{
+    operator_level(op) <= operator_level(earlier)
+}
+
 /// Operators that bind at least as tight take the operand, and the new one follows.
 fn join(held: Open, e: RawExpr, op: BinOp, alloc: Global) -> Result<Open, NoMemory>
     ensures { IfOk result (λ r. opened r ≡ joined (opened held) (term e) op) }
 {
     match held {
+        Open::Nothing => Ok(Open::OneInfix(e, op)),
+        Open::OneInfix(a, earlier) => {
+            if is_applied(earlier, op) {
+                Ok(Open::OneInfix(pair(alloc, earlier, a, e)?, op))
+            } else {
+                let below = Box::new(alloc, Open::OneInfix(a, earlier))?;
+                Ok(Open::Infix(e, op, below))
+            }
+        }
         Open::Infix(a, earlier, rest) => {
-            if operator_level(op) <= operator_level(earlier) {
+            if is_applied(earlier, op) {
                 join(rest.into_inner(), pair(alloc, earlier, a, e)?, op, alloc)
             } else {
                 let below = Box::new(alloc, Open::Infix(a, earlier, rest))?;
@@ -70,7 +89,9 @@ fn close(held: Open, e: RawExpr, alloc: Global) -> Result<Reading, NoMemory>
 {
     match held {
         Open::Infix(a, op, rest) => close(rest.into_inner(), pair(alloc, op, a, e)?, alloc),
+        Open::OneInfix(a, op) => Ok(Reading::Has(pair(alloc, op, a, e)?, Open::Nothing)),
         Open::Paren(rest) => give(rest.into_inner(), e, alloc),
+        Open::OneParen => Ok(Reading::Has(e, Open::Nothing)),
         other => Ok(Reading::Has(e, other)),
     }
 }
@@ -82,6 +103,7 @@ fn finish(held: Open, e: RawExpr, alloc: Global) -> Result<Option<RawExpr>, NoMe
     match held {
         Open::Nothing => Ok(Some(e)),
         Open::Infix(a, op, rest) => finish(rest.into_inner(), pair(alloc, op, a, e)?, alloc),
+        Open::OneInfix(a, op) => Ok(Some(pair(alloc, op, a, e)?)),
         _ => Ok(None),
     }
 }
@@ -90,7 +112,7 @@ fn has_paren(held: &Open) -> bool
     ensures { result ≡ has_paren (opened held.now) }
 {
     match held {
-        Open::Paren(_) => true,
+        Open::Paren(_) | Open::OneParen => true,
         Open::Infix(_, _, rest) => has_paren(rest.get()),
         _ => false,
     }
@@ -104,6 +126,7 @@ fn compares(held: &Open) -> bool
             let level = operator_level(*op);
             level == 3 || (level > 3 && compares(rest.get()))
         }
+        Open::OneInfix(_, op) => operator_level(*op) == 3,
         _ => false,
     }
 }
@@ -138,6 +161,16 @@ pub fn goes_on(at: &Reading, symbol: Symbol) -> bool
     }
 }
 
+// A parenthesis opens.
+fn paren(held: Open, alloc: Global) -> Result<Open, NoMemory>
+    ensures { IfOk result (λ r. opened r ≡ Paren (opened held)) }
+{
+    match held {
+        Open::Nothing => Ok(Open::OneParen),
+        other => Ok(Open::Paren(Box::new(alloc, other)?)),
+    }
+}
+
 fn operand_step(
     held: Open,
     symbol: Symbol,
@@ -150,7 +183,7 @@ fn operand_step(
         Symbol::Number => give(held, RawExpr::Num(token), alloc),
         Symbol::Name => give(held, RawExpr::Local(token), alloc),
         Symbol::Not => Ok(Reading::Awaits(Open::Deny(Box::new(alloc, held)?))),
-        Symbol::OpenParen => Ok(Reading::Awaits(Open::Paren(Box::new(alloc, held)?))),
+        Symbol::OpenParen => Ok(Reading::Awaits(paren(held, alloc)?)),
         _ => Ok(Reading::Awaits(Open::Minus(Box::new(alloc, held)?))),
     }
 }

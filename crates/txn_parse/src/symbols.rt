@@ -1,5 +1,6 @@
-ghost use Rattle.std.specs.Prelude.{◌≡◌, [], ◌∷◌};
-ghost use Rattle.txn_parse.specs.Symbols.{symbol_of, symbol_in, marks, entries_of, code, is};
+ghost use Rattle.std.specs.Prelude.{◌≡◌, [], ◌∷◌, if◌then◌else◌};
+ghost use Rattle.txn_text.specs.declared.kinds.TokenKind.TheVariants.{Word, Sym};
+ghost use Rattle.txn_parse.specs.Symbols.{symbol_of, symbol_by, symbol_in, marks, entries_of, code, is};
 
 use txn_lang::BinOp;
 use txn_text::{Token, TokenKind, token_text};
@@ -314,16 +315,27 @@ fn mark_in(text: &[u8]) -> Symbol
     }
 }
 
-/// The symbol of a token. A token that no grammar has is `Other`.
+// The symbol of a reserved word or a mark, from its text.
 #[tactic(auto, unfolding(crate::specs::Symbols::words))]
+fn symbol_in_text(is_word: bool, text: &[u8]) -> Symbol
+    ensures { result ≡ symbol_by (if is_word then Word else Sym) text.now }
+{
+    if is_word {
+        symbol_in(&WORDS, text)
+    } else {
+        mark_in(text)
+    }
+}
+
+/// The symbol of a token. A token that no grammar has is `Other`. The text of a name or a number is not looked at.
 pub fn symbol_of(text: &[u8], token: Token) -> Symbol
     ensures { result ≡ symbol_of text.now token }
 {
     match token.kind {
         TokenKind::Name => Symbol::Name,
         TokenKind::Number => Symbol::Number,
-        TokenKind::Word => symbol_in(&WORDS, token_text(text, token)),
-        TokenKind::Sym => mark_in(token_text(text, token)),
+        TokenKind::Word => symbol_in_text(true, token_text(text, token)),
+        TokenKind::Sym => symbol_in_text(false, token_text(text, token)),
     }
 }
 

@@ -74,10 +74,11 @@ pub fn print_expression(out: &mut Printer, locals: &[List<u8>], e: &Expr) -> Res
             out.word(b"not")?;
             print_operand(out, locals, a.get(), 6)
         }
-        Expr::Bin(op, a, b) => {
-            print_operand(out, locals, a.get(), left_level(*op))?;
+        Expr::Bin(op, operands) => {
+            let (a, b) = operands.get();
+            print_operand(out, locals, a, left_level(*op))?;
             print_operator(out, *op)?;
-            print_operand(out, locals, b.get(), operator_level(*op) + 1)
+            print_operand(out, locals, b, operator_level(*op) + 1)
         }
     }
 }

@@ -4,7 +4,7 @@ use Rattle.txn_parse.specs.declared.tree.RawExpr.{RawExpr}
 use Rattle.txn_parse.specs.Tree.{Term, term}
 use Rattle.txn_parse.specs.Symbols.{Lexeme, lexeme, lexemes}
 use Rattle.txn_parse.specs.Pending.{State, state_of, ended}
-use Rattle.txn_parse.specs.Reading.{Found, ended_at, expr_from, expr_at, EndsAt}
+use Rattle.txn_parse.specs.Reading.{Found, ended_at, expr_from, EndsAt}
 use Rattle.txn_parse.proofs.ExprLemmas.{expr_ends, expr_over, expr_goes_on, syntax_gives}
 use Rattle.txn_parse.proofs.expressions.expression.Goals as goal
 

@@ -9,12 +9,16 @@ use Rattle.txn_parse.proofs.names.+unknown_local.Goals as goal
 pub returns-in-Some : goal.returns-in-Some
 returns-in-Some t c =
     let p = is_unknown c.args.text.now c.args.names.now in
-    let first : Some c.in-Some.v ≡ find p (locals_of (term c.in-Bin.a)) = c.in-Some.ensures ∙ ap (λ e. find p (locals_of (term e))) c.get.ensures in
-    sym (ap (λ e. find p (locals_of (term e))) c.in-Bin.is ∙ ap (λ e. find p (locals_of e)) (term-Bin c.in-Bin.field-0 c.in-Bin.a c.in-Bin.b) ∙ found_first p (locals_of (term c.in-Bin.a)) (locals_of (term c.in-Bin.b)) c.in-Some.v first)
+    let a = c.in-Bin.operands.0 in
+    let b = c.in-Bin.operands.1 in
+    let first : Some c.in-Some.v ≡ find p (locals_of (term a)) = c.in-Some.ensures ∙ ap (λ x. find p (locals_of (term x.0))) c.get.ensures in
+    sym (ap (λ e. find p (locals_of (term e))) c.in-Bin.is ∙ ap (λ e. find p (locals_of e)) (term-Bin c.in-Bin.field-0 a b) ∙ found_first p (locals_of (term a)) (locals_of (term b)) c.in-Some.v first)
 
 pub returns-in-None : goal.returns-in-None
 returns-in-None t c =
     let p = is_unknown c.args.text.now c.args.names.now in
-    let first : None ≡ find p (locals_of (term c.in-Bin.a)) = c.in-None.ensures ∙ ap (λ e. find p (locals_of (term e))) c.get.ensures in
-    c.unknown_local-in-None.ensures ∙ ap (λ e. find p (locals_of (term e))) c.get-in-None.ensures
-    ∙ sym (ap (λ e. find p (locals_of (term e))) c.in-Bin.is ∙ ap (λ e. find p (locals_of e)) (term-Bin c.in-Bin.field-0 c.in-Bin.a c.in-Bin.b) ∙ found_second p (locals_of (term c.in-Bin.a)) (locals_of (term c.in-Bin.b)) first)
+    let a = c.in-Bin.operands.0 in
+    let b = c.in-Bin.operands.1 in
+    let first : None ≡ find p (locals_of (term a)) = c.in-None.ensures ∙ ap (λ x. find p (locals_of (term x.0))) c.get.ensures in
+    c.unknown_local-in-None.ensures ∙ ap (λ x. find p (locals_of (term x.1))) c.get.ensures
+    ∙ sym (ap (λ e. find p (locals_of (term e))) c.in-Bin.is ∙ ap (λ e. find p (locals_of e)) (term-Bin c.in-Bin.field-0 a b) ∙ found_second p (locals_of (term a)) (locals_of (term b)) first)

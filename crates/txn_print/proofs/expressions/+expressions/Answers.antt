@@ -15,9 +15,10 @@ print_operand-returns-in_ok-print_expression t c =
 
 pub print_expression-returns-in_ok-print_operator-in-Bin : goal.print_expression-returns-in_ok-print_operator-in-Bin
 print_expression-returns-in_ok-print_operator-in-Bin t c =
-    let folded = term-Bin c.in-Bin.op c.in-Bin.a c.in-Bin.b in
-    let bin : term c.args.e.now ≡ Bin c.in-Bin.op (term c.get-in-Bin.result.now) (term c.get-in-Bin-2.result.now) = cc in
-    let P : Term → Type 0 = λ x. OnOk c.print_operand-in-Bin-2.result (c.print_operand-in-Bin-2.new.out ≡ printed c.args.out.now (term_pieces c.args.locals.now x)) in
+    let x = c.get-in-Bin.result.now in
+    let folded = term-Bin c.in-Bin.op x.0 x.1 in
+    let bin : term c.args.e.now ≡ Bin c.in-Bin.op (term x.0) (term x.1) = cc in
+    let P : Term → Type 0 = λ e. OnOk c.print_operand-in-Bin-2.result (c.print_operand-in-Bin-2.new.out ≡ printed c.args.out.now (term_pieces c.args.locals.now e)) in
     subst P (sym bin)
-    (bin_printed c.print_operand-in-Bin-2.result c.args.locals.now c.in-Bin.op (term c.get-in-Bin.result.now) (term c.get-in-Bin-2.result.now) _ _ c.args.out.now _ _ _
+    (bin_printed c.print_operand-in-Bin-2.result c.args.locals.now c.in-Bin.op (term x.0) (term x.1) _ _ c.args.out.now _ _ _
     c.left_level.ensures c.operator_level.ensures c.in_ok-print_operand-in-Bin.ensures c.in_ok-print_operator-in-Bin.ensures c.print_operand-in-Bin-2.ensures)
