@@ -33,3 +33,4 @@ pub mod SayableClients
 pub mod SayablePlans
 pub mod SaidIsSayable
 pub mod ReadLemmas
+pub mod LastLine

@@ -1,4 +1,5 @@
 ghost use Rattle.std.specs.Prelude.{◌≡◌, ◌<◌, ℕ, List, length};
+ghost use Rattle.txn_text.specs.Kinds.{IsToken, AreTokens};
 ghost use Rattle.txn_parse.specs.Symbols.{lexemes};
 ghost use Rattle.txn_parse.specs.Gives.{last_line};
 ghost use Rattle.txn_parse.specs.Faults.{IsWithinLimits};
@@ -67,12 +68,34 @@ fn fault_of_cut(alloc: Global, text: &[u8], last: u32, cut: &[Token], limit: Tex
     }
 }
 
+// The line in which a text ends, counted from the line of one of its tokens.
+fn last_line_from(text: &[u8], token: Token) -> u32
+    requires short { length text.now < u32.MAX }
+    requires placed { IsToken text.now token }
+    ensures { result ≡ last_line text.now }
+{
+    token.line - 1 + last_line(&text[token.start as usize..])
+}
+
+// The line in which a text ends, counted from that of its last token.
+fn line_of_end(text: &[u8], toks: &[Token]) -> u32
+    requires short { length text.now < u32.MAX }
+    requires in_order { AreTokens text.now 0 toks.now }
+    ensures { result ≡ last_line text.now }
+{
+    match toks.last() {
+        Some(token) => last_line_from(text, *token),
+        None => last_line(text),
+    }
+}
+
 /// The items of a script's tokens, or their one fault of the second stage.
 pub fn read_items(alloc: Global, text: &[u8], toks: &[Token]) -> Result<List<RawItem>, TextFault>
-    requires { length text.now < u32.MAX }
+    requires short { length text.now < u32.MAX }
+    requires in_order { AreTokens text.now 0 toks.now }
     ensures { IsReadAs (Derives script) (last_line text.now) (lexemes text.now toks.now) (items_of result) }
 {
-    let last = last_line(text);
+    let last = line_of_end(text, toks);
     match first_past(text, toks) {
         None => read_within(alloc, text, last, toks),
         Some((at, kind)) => {
