@@ -8,9 +8,10 @@ use denote.Hole.FixLaws.{layer_row}
 use denote.Hole.FixSend.{Sends, Syncs, fix_send, fix_sync}
 use denote.Builtin.{u32}
 use denote.Param.Send.{IsSend, IsSync, sendable}
-use denote.Param.SendFields.{FieldsHave, variants_send, variants_sync, declared_send, as_row_send, as_row_sync}
+use denote.Param.SendFields.{FieldsHave, variants_send, variants_sync, declared_send, declared_sync, as_row_send, as_row_sync}
 use denote.Struct.Declared.{Declared, field}
 use denote.Struct.Record.{declared}
+use denote.Struct.Tuple.{Tuple, tuple_type}
 use denote.Struct.Field.{Field, row_field, i64-field, u16-field, u32-field, u64-field}
 use Rattle.std.proofs.Crossing.{crosses}
 use Rattle.sqlite_items.specs.contracts.boxed.Boxed.{the_row as boxed_row}
@@ -43,6 +44,15 @@ box_send R s = as_row_send (row_field (boxed_row R)) (boxed.the_send R s)
 box_sync : (R : RattleType) → IsSync R → IsSync (as_row (row_field (boxed_row R)))
 box_sync R s = as_row_sync (row_field (boxed_row R)) (boxed.the_sync R s)
 
+abbrev pair : RattleType → RattleType
+pair R = Tuple (R ∷ R ∷ [])
+
+pair_send : (R : RattleType) → IsSend R → IsSend (pair R)
+pair_send R s = declared_send (tuple_type (R ∷ R ∷ [])) (as_row_send (row_field R) s, (as_row_send (row_field R) s, tt))
+
+pair_sync : (R : RattleType) → IsSync R → IsSync (pair R)
+pair_sync R s = declared_sync (tuple_type (R ∷ R ∷ [])) (as_row_sync (row_field R) s, (as_row_sync (row_field R) s, tt))
+
 i64_send : IsSend (as_row i64-field)
 i64_send = search sendable
 
@@ -72,13 +82,15 @@ layer_send : (h : _ → RattleType) → ((j : _) → IsSend (h j)) → IsSend (l
 layer_send h all =
     let R = h expr.the_member in
     let b = box_send R (all expr.the_member) in
-    variants_send (type-Expr R R R R) ((i64_send, tt), ((u16_send, tt), ((b, tt), ((b, tt), ((as_row_send (row_field (as_row operator_field)) operator_send, (b, (b, tt))), tt)))))
+    let operands = box_send (pair R) (pair_send R (all expr.the_member)) in
+    variants_send (type-Expr R R R) ((i64_send, tt), ((u16_send, tt), ((b, tt), ((b, tt), ((as_row_send (row_field (as_row operator_field)) operator_send, (operands, tt)), tt)))))
 
 layer_sync : (h : _ → RattleType) → ((j : _) → IsSync (h j)) → IsSync (layer_row expr.the_ring expr.the_member h)
 layer_sync h all =
     let R = h expr.the_member in
     let b = box_sync R (all expr.the_member) in
-    variants_sync (type-Expr R R R R) ((i64_sync, tt), ((u16_sync, tt), ((b, tt), ((b, tt), ((as_row_sync (row_field (as_row operator_field)) operator_sync, (b, (b, tt))), tt)))))
+    let operands = box_sync (pair R) (pair_sync R (all expr.the_member)) in
+    variants_sync (type-Expr R R R) ((i64_sync, tt), ((u16_sync, tt), ((b, tt), ((b, tt), ((as_row_sync (row_field (as_row operator_field)) operator_sync, (operands, tt)), tt)))))
 
 hole_send : IsSend expr.the_hole
 hole_send = fix_send expr.the_ring (expr.by_members (λ i. Sends expr.the_ring i) (record { send = layer_send })) expr.the_member
@@ -89,12 +101,14 @@ hole_sync = fix_sync expr.the_ring (expr.by_members (λ i. Syncs expr.the_ring i
 expr_send : IsSend expr.the_row
 expr_send =
     let b = box_send expr.the_hole hole_send in
-    variants_send expr.enum ((i64_send, tt), ((u16_send, tt), ((b, tt), ((b, tt), ((operator_send, (b, (b, tt))), tt)))))
+    let operands = box_send (pair expr.the_hole) (pair_send expr.the_hole hole_send) in
+    variants_send expr.enum ((i64_send, tt), ((u16_send, tt), ((b, tt), ((b, tt), ((operator_send, (operands, tt)), tt)))))
 
 expr_sync : IsSync expr.the_row
 expr_sync =
     let b = box_sync expr.the_hole hole_sync in
-    variants_sync expr.enum ((i64_sync, tt), ((u16_sync, tt), ((b, tt), ((b, tt), ((operator_sync, (b, (b, tt))), tt)))))
+    let operands = box_sync (pair expr.the_hole) (pair_sync expr.the_hole hole_sync) in
+    variants_sync expr.enum ((i64_sync, tt), ((u16_sync, tt), ((b, tt), ((b, tt), ((operator_sync, (operands, tt)), tt)))))
 
 field_send : IsSend (as_row expr.the_field)
 field_send = expr_send
