@@ -47,7 +47,10 @@ fn bound_expr(alloc: Global, text: &[u8], names: &[List<u8>], e: &RawExpr) -> Re
         RawExpr::Not(a) => Expr::Not(Box::new(alloc, bound_expr(alloc, text, names, a.get())?)?),
         RawExpr::Bin(op, operands) => {
             let (a, b) = operands.get();
-            let bound = (bound_expr(alloc, text, names, a)?, bound_expr(alloc, text, names, b)?);
+            let bound = (
+                bound_expr(alloc, text, names, a)?,
+                bound_expr(alloc, text, names, b)?,
+            );
             Expr::Bin(*op, Box::new(alloc, bound)?)
         }
     })
