@@ -3,3 +3,4 @@ pub mod Places
 pub mod Stopping
 pub mod Suffix
 pub mod Resuming
+pub mod Crossing

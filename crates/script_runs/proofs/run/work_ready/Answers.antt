@@ -4,7 +4,8 @@ use denote.Param.Send.{param_send, param_sync, arg_send, arg_sync}
 use Rattle.std.proofs.Common.{Bool, true, false, ◌≡◌, map, reverse}
 use Rattle.script_runs.specs.Runs.{rules_for}
 use Rattle.script_runs.proofs.Ended.{ended_run}
-use Rattle.script_runs.proofs.Sent.{world_send, done_send, codes_sync}
+use Rattle.continuation.proofs.Crossing.{done_send}
+use Rattle.script_runs.proofs.Sent.{world_send, codes_sync}
 use Rattle.script_runs.proofs.run.work_ready.Goals as goal
 
 pub returns : goal.returns
