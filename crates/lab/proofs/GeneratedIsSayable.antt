@@ -1,14 +1,14 @@
 -- A generated script is one that some text says.
-use Rattle.std.proofs.Common.{◌≡◌, ℕ, zero, suc, ◌+◌, ◌-◌, ◌*◌, ◌/◌, ◌%◌, ◌^◌, ◌<◌, ◌≤◌, ◌==◌, ◌&&◌, ◌||◌, nat_le, Bool, true, false, not, cond, List, [], ◌∷◌, ◌++◌, map, length, drop, refl, sym, ap, ◌∙◌, subst, arith, rules, pos, ⊎_elim}
+use Rattle.std.proofs.Common.{◌≡◌, ℕ, zero, suc, ◌+◌, ◌-◌, ◌/◌, ◌%◌, ◌^◌, ◌<◌, ◌≤◌, ◌==◌, ◌&&◌, ◌||◌, nat_le, Bool, true, false, not, cond, List, [], ◌∷◌, ◌++◌, map, length, drop, refl, sym, ap, ◌∙◌, subst, arith, pos, ⊎_elim}
 use Rattle.std.specs.Prelude.{codes, decimal, slice_index}
-use Rattle.std.specs.List.{list_all, list_any, filter, range_with_len, AllByRecursion, IsDistinct}
+use Rattle.std.specs.List.{list_all, filter, range_with_len, AllByRecursion, IsDistinct}
 use Rattle.std.specs.Ordering.{int_eq}
 use Rattle.std.specs.Str.{bytes_eq}
-use Rattle.std.proofs.lemmas.Bool.{cases_Bool, cond_both, cond-true, cond-false, and_from, and_parts}
+use Rattle.std.proofs.lemmas.Bool.{cases_Bool, cond_both, and_from, and_parts}
 use Rattle.std.proofs.lemmas.Bool.Decides.{nat_tests, Decides-int_eq}
 use Rattle.std.proofs.lemmas.Slice.Eq.{bytes_eq-Decides}
 use Rattle.std.proofs.lemmas.Fmt.{decimal_injective, decimal_nonempty, length-decimal-le}
-use Rattle.std.proofs.lemmas.List.FromFn.{length-range_with_len, length-map-range_with_len}
+use Rattle.std.proofs.lemmas.List.FromFn.{length-map-range_with_len}
 use Rattle.rand_pcg.specs.Lcg.{Lcg}
 use Rattle.morty_base.specs.Names.{same_key}
 use Rattle.morty_base.specs.ScriptNames.{is_letter, is_digit, is_name_byte, is_name, is_reserved, is_one_of, is_setting_word, is_item_word, is_net_word, is_plan_word, is_statement_word}
@@ -17,13 +17,13 @@ use Rattle.txn_print.proofs.LaidLemmas.{decimal_is}
 use Rattle.txn_print.specs.Written.{AreWritten}
 use Rattle.script.specs.declared.setup.First.{First}
 use Rattle.script.specs.declared.setup.Txn.{Txn}
-use Rattle.script.specs.Meaning.{Named, Script, prog_names}
-use Rattle.script.specs.Sayable.{IsFirst, IsProg, IsTxn, IsClient, AreClients, IsSayable}
+use Rattle.script.specs.Meaning.{Named}
+use Rattle.script.specs.Sayable.{IsFirst, IsProg, IsTxn, IsClient, IsSayable}
 use Rattle.lab.specs.declared.draws.TheConstants.{ACCOUNTS, GREATEST_AMOUNT}
-use Rattle.lab.specs.declared.generated.TheConstants.{GREATEST_SEED, MOST_GENERATED, CLIENTS, FIRST_VALUE}
+use Rattle.lab.specs.declared.generated.TheConstants.{GREATEST_SEED, MOST_GENERATED, CLIENTS}
 use Rattle.lab.specs.declared.draws.Transfer.{Transfer}
-use Rattle.lab.specs.Draws.{generator, draw, apart_from, transfer_by, next_transfer, transfers}
-use Rattle.lab.specs.Generated.{transfer_body, transfer_locals, transfer_prog, transfer_progs, transfer_txn, txns_of, account, stops, generated}
+use Rattle.lab.specs.Draws.{generator, draw, transfer_by, next_transfer, transfers}
+use Rattle.lab.specs.Generated.{transfer_body, transfer_progs, transfer_txn, txns_of, account, generated}
 use Rattle.lab.proofs.TransferLemmas.{transfer_formed, transfer_within}
 
 -- the first values: one an account

@@ -7,8 +7,6 @@ use Rattle.std.proofs.lemmas.List.FromFn.{map-range_with_len_more, filter_of_map
 use Rattle.std.specs.List.{IsDistinct, range_with_len}
 use Rattle.rand_pcg.specs.Lcg.{Lcg}
 use Rattle.morty_base.specs.ScriptNames.{is_setting_word, is_item_word, is_net_word, is_plan_word, is_statement_word, is_reserved, is_name}
-use Rattle.txn_lang.specs.declared.tree.Expr.TheVariants as expr
-use Rattle.txn_lang.specs.declared.tree.Stmt.TheVariants as stmt
 use Rattle.txn_lang.specs.Tree.{Commands}
 use Rattle.txn_lang.specs.Limits.{IsWithin}
 use Rattle.txn_lang.specs.Form.{IsWellFormed}

@@ -1,5 +1,5 @@
 -- The canonical text of each sayable script says that script.
-use Rattle.std.proofs.Common.{◌≡◌, ℕ, ◌+◌, ◌<◌, ◌≤◌, ◌==◌, true, false, List, [], ◌∷◌, ◌++◌, map, length, None, Ok, refl, sym, ap, ◌∙◌, subst, arith}
+use Rattle.std.proofs.Common.{◌≡◌, ℕ, ◌<◌, ◌≤◌, ◌==◌, true, false, List, [], ◌∷◌, ◌++◌, map, length, refl, sym, ap, ◌∙◌, subst, arith}
 use Rattle.std.specs.Prelude.{codes}
 use Rattle.std.specs.List.{AllByRecursion}
 use Rattle.std.proofs.lemmas.Bool.Decides.{nat_tests}
@@ -8,23 +8,21 @@ use Rattle.txn_text.specs.declared.bytes.TheConstants.{GREATEST_NUMBER}
 use Rattle.txn_text.specs.declared.faults.FaultKind.TheVariants as fault
 use Rattle.txn_parse.specs.declared.symbols.Symbol.TheVariants as symbol
 use Rattle.txn_parse.specs.Symbols.{words, Lexeme, lexeme, lexemes}
-use Rattle.txn_parse.specs.Binding.{Names}
-use Rattle.txn_print.specs.Piece.{Piece, Word, lines_text}
+use Rattle.txn_print.specs.Piece.{Piece, Word}
 use Rattle.txn_print.proofs.LexedLemmas.{Lexed, none, one, lexed, Parts, parts}
-use Rattle.txn_print.proofs.LinesLaid.{joined, AreLines, LinesRead, lines_read}
-use Rattle.script.specs.declared.limits.TheConstants.{MOST_WARDENS, MOST_CLIENTS, MOST_PROGRAMS}
+use Rattle.txn_print.proofs.LinesLaid.{joined, lines_read}
+use Rattle.script.specs.declared.limits.TheConstants.{MOST_PROGRAMS}
 use Rattle.script.specs.declared.items.SettingName.TheVariants as named
-use Rattle.script.specs.declared.items.Stated.{Stated}
-use Rattle.script.specs.Items.{Item, End}
-use Rattle.script.specs.Rules.{Rule, Into, Many}
+use Rattle.script.specs.Items.{End}
+use Rattle.script.specs.Rules.{Into, Many}
 use Rattle.script.specs.Grammar as grammar
-use Rattle.script.specs.Meaning.{Named, Script, Said, silent, nothing_said, prog_names}
+use Rattle.script.specs.Meaning.{Script, Said, silent, nothing_said, prog_names}
 use Rattle.script.specs.Checks.{may_be}
 use Rattle.script.specs.Canonical.{setting_line, setting_lines, policy_line, table_line, first_line, program_line, client_lines, net_line, plan_line, script_lines, canonical}
 use Rattle.script.specs.Sayable.{IsClient, IsSayable}
 use Rattle.script.specs.Texts.{IsScriptOf}
-use Rattle.script.proofs.SayLemmas.{Says, into_derived, token_derived, says_none, says_one, says_single, says_both, says_then}
-use Rattle.script.proofs.SaySettings.{pass, set, set_policy, version_says, setting_says, policy_says}
+use Rattle.script.proofs.SayLemmas.{Says, into_derived, token_derived, says_single, says_both, says_then}
+use Rattle.script.proofs.SaySettings.{pass, set, version_says, setting_says, policy_says}
 use Rattle.script.proofs.SayStores.{tables_say, firsts_say}
 use Rattle.script.proofs.SayPrograms.{programs_say}
 use Rattle.script.proofs.SayClients.{clients_say}

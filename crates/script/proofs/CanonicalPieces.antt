@@ -1,9 +1,8 @@
 -- The lines of a sayable script are pieces that have the bytes of their kinds.
-use Rattle.std.proofs.Common.{◌≡◌, ℕ, suc, ◌+◌, ◌<◌, ◌≤◌, true, ◌&&◌, List, [], ◌∷◌, ◌++◌, map, length, refl, sym, ap, ◌∙◌, subst, arith, ℤ, pos, negsuc}
+use Rattle.std.proofs.Common.{◌≡◌, ℕ, ◌+◌, ◌≤◌, true, List, [], ◌∷◌, ◌++◌, map, length, refl, sym, subst, arith, ℤ, pos, negsuc}
 use Rattle.std.specs.Prelude.{codes}
 use Rattle.std.specs.List.{list_all, AllByRecursion}
 use Rattle.std.proofs.lemmas.Bool.{and_parts}
-use Rattle.std.proofs.lemmas.Bool.Decides.{nat_tests}
 use Rattle.morty_base.specs.declared.names.NodeId.{NodeId}
 use Rattle.morty_base.specs.declared.names.NodeId.TheVariants as nodes
 use Rattle.morty_base.specs.ScriptNames.{is_name, is_reserved, is_setting_word, is_item_word, is_net_word, is_plan_word, is_statement_word}
@@ -14,13 +13,12 @@ use Rattle.net_core.specs.declared.plan.PlanWhat.{PlanWhat}
 use Rattle.net_core.specs.declared.plan.PlanWhat.TheVariants as what
 use Rattle.txn_text.specs.declared.bytes.TheConstants.{GREATEST_NUMBER}
 use Rattle.txn_parse.specs.Binding.{Names}
-use Rattle.txn_print.specs.Piece.{Piece, Word, Name, Number, Symbol, Sign}
-use Rattle.txn_print.specs.Canonical.{name_at, in_braces, block_pieces}
-use Rattle.txn_print.specs.Spelling.{IsPiece, ArePieces}
+use Rattle.txn_print.specs.Piece.{Piece, Word, Symbol}
+use Rattle.txn_print.specs.Canonical.{in_braces}
+use Rattle.txn_print.specs.Spelling.{ArePieces}
 use Rattle.txn_print.specs.Written.{IsWritten}
 use Rattle.txn_print.proofs.LinesLaid.{AreLines}
 use Rattle.txn_print.proofs.PiecesLemmas.{pieces_append, name_is, braces_are, block_are}
-use Rattle.script.specs.declared.items.SettingName.{SettingName}
 use Rattle.script.specs.declared.items.SettingName.TheVariants as named
 use Rattle.script.specs.declared.setup.Policy.{Policy}
 use Rattle.script.specs.declared.setup.Policy.TheVariants as policy
@@ -30,8 +28,7 @@ use Rattle.script.specs.declared.setup.Net.{Net}
 use Rattle.script.specs.declared.setup.Net.TheVariants as net
 use Rattle.script.specs.declared.limits.TheConstants.{MOST_CLIENTS}
 use Rattle.script.specs.Meaning.{Named, Script, prog_names}
-use Rattle.script.specs.Checks.{may_be}
-use Rattle.script.specs.Canonical.{setting_line, policy_line, signed_pieces, table_line, first_line, program_line, txn_pieces, more_txns, first_txns, client_line, client_lines, net_line, node_pieces, version_pieces, pick_pieces, entry_pieces, plan_line, setting_lines, script_lines}
+use Rattle.script.specs.Canonical.{setting_line, policy_line, signed_pieces, table_line, first_line, program_line, txn_pieces, more_txns, first_txns, client_lines, net_line, node_pieces, pick_pieces, plan_line, setting_lines, script_lines}
 use Rattle.script.specs.Sayable.{IsFirst, IsProg, IsTxn, IsClient, IsNet, IsNode, IsPick, IsPlanned, IsPlanItem, IsSayable}
 use Rattle.script.proofs.SaySettings.{may_small}
 

@@ -1,36 +1,33 @@
 -- What the lines of clients say.
-use Rattle.std.proofs.Common.{◌≡◌, ℕ, zero, suc, ◌+◌, ◌-◌, ◌<◌, ◌≤◌, ◌==◌, ◌||◌, nat_le, Bool, true, false, not, cond, List, [], ◌∷◌, ◌++◌, map, length, Option, Some, None, Ok, refl, sym, ap, ◌∙◌, subst, arith, inl, inr}
-use Rattle.std.specs.Prelude.{codes, decimal}
+use Rattle.std.proofs.Common.{◌≡◌, ℕ, zero, suc, ◌+◌, ◌<◌, ◌≤◌, ◌==◌, ◌||◌, nat_le, true, false, not, List, [], ◌∷◌, ◌++◌, map, length, Some, None, Ok, refl, sym, ap, ◌∙◌, subst, arith, inl, inr}
+use Rattle.std.specs.Prelude.{codes}
 use Rattle.std.specs.List.{AllByRecursion, IsDistinct}
 use Rattle.std.specs.Str.{bytes_eq}
 use Rattle.std.proofs.lemmas.Bool.Decides.{nat_tests}
 use Rattle.std.proofs.lemmas.List.{append_assoc, append-nil, length-append}
-use Rattle.txn_text.specs.declared.bytes.TheConstants.{GREATEST_NUMBER}
 use Rattle.txn_text.specs.declared.faults.FaultKind.TheVariants as fault
-use Rattle.txn_text.specs.declared.faults.TextFault.TheVariants.{At}
 use Rattle.txn_text.specs.declared.kinds.Token.{Token}
 use Rattle.txn_text.specs.Tokens.{token_bytes}
 use Rattle.txn_parse.specs.declared.symbols.Symbol.TheVariants as symbol
 use Rattle.txn_parse.specs.Symbols.{words, marks, Lexeme, lexeme}
 use Rattle.txn_parse.specs.Counts.{counted, and_then}
-use Rattle.txn_parse.specs.Binding.{Check, first_failing, Names, is_known, place, known_checks, number_of}
+use Rattle.txn_parse.specs.Binding.{first_failing, Names, is_known, place, number_of}
 use Rattle.txn_parse.proofs.CountsLemmas.{counted-append}
 use Rattle.txn_parse.proofs.NamesLemmas.{none_first}
-use Rattle.txn_print.specs.Piece.{Piece, Word, Name, Number, Symbol as Mark}
-use Rattle.txn_print.specs.Canonical.{name_at, in_braces}
+use Rattle.txn_print.specs.Piece.{Symbol as Mark}
 use Rattle.txn_print.proofs.LexedLemmas.{Lexed, none, one, Parts, parts}
 use Rattle.txn_print.proofs.LinesLaid.{joined}
-use Rattle.txn_print.proofs.PlacesLemmas.{name_of, place_of, known_here}
+use Rattle.txn_print.proofs.PlacesLemmas.{place_of, known_here}
 use Rattle.txn_print.proofs.ReadTerms.{number_back, name_spelled}
 use Rattle.script.specs.declared.limits.TheConstants.{MOST_CLIENTS, MOST_TRANSACTIONS, LATEST_START}
 use Rattle.script.specs.declared.items.RawTxn.{RawTxn}
 use Rattle.script.specs.declared.items.Stated.{Stated}
 use Rattle.script.specs.declared.setup.Txn.{Txn}
-use Rattle.script.specs.Items.{Item, Client}
-use Rattle.script.specs.Rules.{Rule, Both, Into, Either, Many, Listed, IsListed, last_one, listed_more, Derives}
+use Rattle.script.specs.Items.{Client}
+use Rattle.script.specs.Rules.{Both, Many, IsListed, last_one, listed_more, Derives}
 use Rattle.script.specs.Grammar.{token, behind, optional, number, name, txn, txns, client}
-use Rattle.script.specs.Meaning.{Script, Said, prog_names, txn_of, after}
-use Rattle.script.specs.Checks.{check, program_checks, room_checks, number_checks, at_most, start_checks, client_checks, checks}
+use Rattle.script.specs.Meaning.{Script, Said, prog_names, txn_of}
+use Rattle.script.specs.Checks.{program_checks, room_checks, number_checks, at_most, start_checks}
 use Rattle.script.specs.Canonical.{txn_pieces, more_txns, first_txns, client_line, client_lines}
 use Rattle.script.specs.Sayable.{IsTxn, IsClient}
 use Rattle.script.proofs.SayLemmas.{Says, into_derived, both_derived, token_derived, behind_derived, IsCalm, says_none, says_one, says_both}

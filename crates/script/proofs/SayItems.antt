@@ -1,5 +1,5 @@
 -- What the lines of nets and plan items say.
-use Rattle.std.proofs.Common.{◌≡◌, ℕ, ◌+◌, ◌≤◌, ◌&&◌, nat_le, Bool, true, false, not, List, [], ◌∷◌, ◌++◌, map, Some, None, Ok, refl, sym, ap, ◌∙◌, subst, arith, inl, inr}
+use Rattle.std.proofs.Common.{◌≡◌, ℕ, ◌≤◌, nat_le, true, false, not, List, [], ◌∷◌, ◌++◌, map, Some, None, Ok, refl, sym, ap, ◌∙◌, subst, arith, inl, inr}
 use Rattle.std.specs.Prelude.{codes, decimal}
 use Rattle.std.specs.List.{AllByRecursion}
 use Rattle.std.proofs.lemmas.List.{append_assoc, append-nil}
@@ -15,18 +15,16 @@ use Rattle.txn_parse.specs.declared.symbols.Symbol.{Symbol}
 use Rattle.txn_parse.specs.declared.symbols.Symbol.TheVariants as symbol
 use Rattle.txn_parse.specs.Symbols.{words, marks, is as is_symbol, Lexeme, lexeme}
 use Rattle.txn_parse.specs.Counts.{counted, and_then}
-use Rattle.txn_parse.specs.Binding.{Check, first_failing, number_of}
+use Rattle.txn_parse.specs.Binding.{first_failing, number_of}
 use Rattle.txn_parse.proofs.CountsLemmas.{counted-append}
 use Rattle.txn_parse.proofs.NamesLemmas.{none_first}
-use Rattle.txn_print.specs.Piece.{Piece, Word, Number, Symbol as Mark}
+use Rattle.txn_print.specs.Piece.{Symbol as Mark}
 use Rattle.txn_print.specs.Canonical.{in_braces}
 use Rattle.txn_print.proofs.LexedLemmas.{Lexed, none, one, Parts, parts}
 use Rattle.txn_print.proofs.LinesLaid.{joined}
 use Rattle.script.specs.declared.limits.TheConstants.{MOST_CALLS, GREATEST_PERCENTAGE}
 use Rattle.script.specs.declared.items.Calls.{Calls}
 use Rattle.script.specs.declared.items.Calls.TheVariants as calls
-use Rattle.script.specs.declared.items.RawNode.{RawNode}
-use Rattle.script.specs.declared.items.RawPick.{RawPick}
 use Rattle.script.specs.declared.items.RawEntry.{RawEntry}
 use Rattle.script.specs.declared.items.RawEntry.TheVariants as entries
 use Rattle.script.specs.declared.items.RawNet.{RawNet}
@@ -34,12 +32,12 @@ use Rattle.script.specs.declared.items.RawNet.TheVariants as nets
 use Rattle.script.specs.declared.items.Stated.{Stated}
 use Rattle.script.specs.declared.setup.Net.{Net as NetValue}
 use Rattle.script.specs.declared.setup.Net.TheVariants as net_value
-use Rattle.script.specs.Items.{Item, Net, At, Entries}
-use Rattle.script.specs.Rules.{Rule, One, Nothing, Both, Into, Either, Many, Listed, IsListed, last_one, Derives}
+use Rattle.script.specs.Items.{Net, At, Entries}
+use Rattle.script.specs.Rules.{One, Both, Into, Either, Many, Listed, last_one, Derives}
 use Rattle.script.specs.Grammar as grammar
-use Rattle.script.specs.Meaning.{Script, Said, net_of, node_of, pick_of, calls_by, entry_of, at_of, planned, after}
-use Rattle.script.specs.Checks.{check, between, node_check, is_listed, pick_checks, entry_checks, entries_checks, number_checks, percentage_check, net_checks, checks}
-use Rattle.script.specs.Canonical.{setting_line, net_line, node_pieces, pick_pieces, entry_pieces, entry_line, plan_line}
+use Rattle.script.specs.Meaning.{Script, Said, net_of, node_of, pick_of, calls_by, entry_of}
+use Rattle.script.specs.Checks.{check, between, node_check, is_listed, pick_checks, entry_checks, percentage_check, net_checks}
+use Rattle.script.specs.Canonical.{net_line, node_pieces, pick_pieces, entry_pieces, entry_line, plan_line}
 use Rattle.script.specs.Sayable.{IsNet, IsCalls, IsPlanned, IsPlanItem}
 use Rattle.script.proofs.SayLemmas.{Says, one_derived, into_derived, both_derived, token_derived, behind_derived, IsCalm, says_none, says_one, says_both}
 use Rattle.script.proofs.SaySettings.{pass}

@@ -1,16 +1,15 @@
 -- What the tokens of lines say, one line behind the other.
-use Rattle.std.proofs.Common.{◌≡◌, ℕ, true, cond, List, [], ◌∷◌, ◌++◌, Option, Some, None, Ok, refl, sym, ap, ◌∙◌, subst, arith}
+use Rattle.std.proofs.Common.{◌≡◌, ℕ, true, cond, List, [], ◌∷◌, ◌++◌, Option, Some, None, Ok, refl, sym, ap, ◌∙◌, subst}
 use Rattle.std.proofs.lemmas.List.{append_assoc, append-nil}
 use Rattle.txn_text.specs.declared.kinds.Token.{Token}
 use Rattle.txn_parse.specs.declared.symbols.Symbol.{Symbol}
-use Rattle.txn_parse.specs.declared.symbols.Symbol.TheVariants as symbol
 use Rattle.txn_parse.specs.Symbols.{Lexeme, lexeme, is}
 use Rattle.txn_parse.specs.Counts.{counted, and_then}
 use Rattle.txn_parse.specs.Binding.{Check, first_failing}
 use Rattle.txn_parse.proofs.CountsLemmas.{counted-append}
 use Rattle.txn_parse.proofs.NamesLemmas.{none_first}
 use Rattle.script.specs.Items.{Item}
-use Rattle.script.specs.Rules.{Rule, One, Both, Into, Either, Many, Listed, IsMany, no_item, one_more, Derives}
+use Rattle.script.specs.Rules.{Rule, One, Both, Into, Many, IsMany, no_item, one_more, Derives}
 use Rattle.script.specs.Grammar.{only, token, behind, single, then_items}
 use Rattle.script.specs.Meaning.{Said, after, after_all}
 use Rattle.script.specs.Checks.{checks, all_checks}

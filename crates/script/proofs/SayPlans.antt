@@ -1,17 +1,13 @@
 -- What the lines of nets and plan items say.
-use Rattle.std.proofs.Common.{◌≡◌, ℕ, suc, ◌+◌, ◌<◌, ◌≤◌, ◌&&◌, nat_le, Bool, true, false, not, cond, List, [], ◌∷◌, ◌++◌, map, length, Option, Some, None, Ok, refl, sym, ap, ◌∙◌, subst, arith, inl, inr}
-use Rattle.std.specs.Prelude.{codes, decimal}
-use Rattle.std.specs.List.{AllByRecursion}
+use Rattle.std.proofs.Common.{◌≡◌, ℕ, ◌≤◌, ◌&&◌, nat_le, false, not, List, [], ◌∷◌, length, Some, None, Ok, refl, ap, ◌∙◌, arith, inl, inr}
+use Rattle.std.specs.Prelude.{decimal}
 use Rattle.std.proofs.lemmas.Bool.Decides.{nat_tests}
-use Rattle.std.proofs.lemmas.List.{append_assoc, append-nil}
 use Rattle.morty_base.specs.declared.names.Version.{Version}
 use Rattle.morty_base.specs.declared.names.NodeId.{NodeId}
 use Rattle.morty_base.specs.declared.names.NodeId.TheVariants as nodes
 use Rattle.msg.specs.declared.Pick.{Pick}
 use Rattle.msg.specs.declared.Pick.TheVariants as pick
 use Rattle.net_core.specs.declared.plan.PlanItem.{PlanItem}
-use Rattle.net_core.specs.declared.plan.PlanWhat.{PlanWhat}
-use Rattle.net_core.specs.declared.plan.PlanWhat.TheVariants as what
 use Rattle.txn_text.specs.declared.bytes.TheConstants.{GREATEST_NUMBER}
 use Rattle.txn_text.specs.declared.faults.FaultKind.TheVariants as fault
 use Rattle.txn_text.specs.declared.kinds.Token.{Token}
@@ -19,40 +15,25 @@ use Rattle.txn_text.specs.Tokens.{token_bytes}
 use Rattle.txn_parse.specs.declared.symbols.Symbol.{Symbol}
 use Rattle.txn_parse.specs.declared.symbols.Symbol.TheVariants as symbol
 use Rattle.txn_parse.specs.Symbols.{words, marks, Lexeme, lexeme}
-use Rattle.txn_parse.specs.Counts.{counted, and_then}
-use Rattle.txn_parse.specs.Binding.{Check, first_failing, number_of}
-use Rattle.txn_parse.proofs.CountsLemmas.{counted-append}
-use Rattle.txn_parse.proofs.NamesLemmas.{none_first}
-use Rattle.txn_print.specs.Piece.{Piece, Word, Name, Number, Symbol as Mark}
-use Rattle.txn_print.specs.Canonical.{in_braces}
-use Rattle.txn_print.proofs.LexedLemmas.{Lexed, none, one, Parts, parts}
-use Rattle.txn_print.proofs.LinesLaid.{joined}
+use Rattle.txn_parse.specs.Counts.{counted}
+use Rattle.txn_parse.specs.Binding.{first_failing, number_of}
+use Rattle.txn_print.proofs.LexedLemmas.{Lexed, none, one}
 use Rattle.txn_print.proofs.ReadTerms.{number_back}
-use Rattle.script.specs.declared.limits.TheConstants.{MOST_CALLS, GREATEST_PERCENTAGE, GREATEST_PLANNED}
+use Rattle.script.specs.declared.limits.TheConstants.{GREATEST_PLANNED}
 use Rattle.script.specs.declared.items.NodeKind.{NodeKind}
 use Rattle.script.specs.declared.items.NodeKind.TheVariants as kinds
-use Rattle.script.specs.declared.items.Calls.{Calls}
-use Rattle.script.specs.declared.items.Calls.TheVariants as calls
 use Rattle.script.specs.declared.items.RawNode.{RawNode}
 use Rattle.script.specs.declared.items.RawVersion.{RawVersion}
 use Rattle.script.specs.declared.items.RawPick.{RawPick}
 use Rattle.script.specs.declared.items.RawPick.TheVariants as picks
-use Rattle.script.specs.declared.items.RawEntry.{RawEntry}
-use Rattle.script.specs.declared.items.RawEntry.TheVariants as entries
-use Rattle.script.specs.declared.items.RawNet.{RawNet}
-use Rattle.script.specs.declared.items.RawNet.TheVariants as nets
-use Rattle.script.specs.declared.items.Stated.{Stated}
-use Rattle.script.specs.declared.setup.Net.{Net as NetValue}
-use Rattle.script.specs.declared.setup.Net.TheVariants as net_value
-use Rattle.script.specs.Items.{Item, Net, At, Entries}
-use Rattle.script.specs.Rules.{Rule, One, Nothing, Both, Into, Either, Many, Listed, IsListed, last_one, Derives}
+use Rattle.script.specs.Rules.{One, Both, Derives}
 use Rattle.script.specs.Grammar as grammar
-use Rattle.script.specs.Meaning.{Script, Said, node_by, node_of, version_of, pick_of, entry_of, after}
-use Rattle.script.specs.Checks.{check, between, nodes_in, node_check, is_listed, planned_check, pick_checks, entry_checks, entries_checks, number_checks, percentage_check, net_checks, checks}
-use Rattle.script.specs.Canonical.{setting_line, net_line, node_pieces, version_pieces, pick_pieces, entry_pieces, entry_line, plan_line}
-use Rattle.script.specs.Sayable.{IsNet, IsNode, IsVersion, IsPick, IsCalls, IsPlanned, IsPlanItem}
-use Rattle.script.proofs.SayLemmas.{Says, one_derived, into_derived, both_derived, token_derived, behind_derived, IsCalm, says_none, says_one, says_both}
-use Rattle.script.proofs.SaySettings.{pass, none_of}
+use Rattle.script.specs.Meaning.{Script, node_by, node_of, version_of, pick_of}
+use Rattle.script.specs.Checks.{between, nodes_in, node_check, planned_check, pick_checks}
+use Rattle.script.specs.Canonical.{node_pieces, pick_pieces}
+use Rattle.script.specs.Sayable.{IsNode, IsVersion, IsPick}
+use Rattle.script.proofs.SayLemmas.{one_derived, into_derived, both_derived, token_derived, behind_derived}
+use Rattle.script.proofs.SaySettings.{pass}
 
 pub under : (n most : ℕ) → n ≤ most → not (nat_le n most) ≡ false
 under n most few = grind (arith, nat_tests)

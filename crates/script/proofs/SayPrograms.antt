@@ -1,43 +1,39 @@
 -- What the lines of programs say.
-use Rattle.std.proofs.Common.{◌≡◌, ℕ, ◌+◌, ◌<◌, ◌≤◌, nat_le, Bool, true, false, not, cond, List, [], ◌∷◌, ◌++◌, map, length, Some, None, Ok, refl, sym, ap, ◌∙◌, subst, arith}
-use Rattle.std.specs.Prelude.{codes}
+use Rattle.std.proofs.Common.{◌≡◌, ℕ, ◌<◌, ◌≤◌, nat_le, Bool, false, cond, List, [], ◌∷◌, ◌++◌, map, length, Some, None, Ok, refl, sym, ap, ◌∙◌, subst, arith}
 use Rattle.std.specs.List.{AllByRecursion, IsDistinct}
 use Rattle.std.specs.Str.{bytes_eq}
 use Rattle.std.proofs.lemmas.Bool.Decides.{nat_tests}
-use Rattle.std.proofs.lemmas.List.{append_assoc, append-nil, length-append, map-append, length-map}
+use Rattle.std.proofs.lemmas.List.{append_assoc, append-nil, length-append, map-append}
 use Rattle.txn_lang.specs.Tree as lang
-use Rattle.txn_lang.specs.declared.limits.TheConstants.{DEEPEST_BLOCK}
 use Rattle.txn_text.specs.declared.faults.FaultKind.TheVariants as fault
 use Rattle.txn_text.specs.declared.faults.TextFault.TheVariants.{At}
 use Rattle.txn_text.specs.declared.kinds.Token.{Token}
 use Rattle.txn_text.specs.Tokens.{token_bytes}
 use Rattle.txn_parse.specs.declared.symbols.Symbol.TheVariants as symbol
-use Rattle.txn_parse.specs.Symbols.{words, marks, Lexeme, lexeme}
+use Rattle.txn_parse.specs.Symbols.{words, Lexeme, lexeme}
 use Rattle.txn_parse.specs.Tree.{Commands}
 use Rattle.txn_parse.specs.Grammar.{IsBlock, braced}
 use Rattle.txn_parse.specs.Counts.{counted}
-use Rattle.txn_parse.specs.Binding.{Check, first_failing, Names, is_known, names_of, bound_body, passes_limit, table_checks, local_checks, limit_check}
+use Rattle.txn_parse.specs.Binding.{first_failing, Names, is_known, names_of, bound_body, passes_limit, table_checks, local_checks, limit_check}
 use Rattle.txn_parse.proofs.CountsLemmas.{limits_are_counts}
 use Rattle.txn_parse.proofs.LimitsLemmas.{free_block}
 use Rattle.txn_parse.proofs.NamesLemmas.{none_first}
-use Rattle.txn_print.specs.Piece.{Piece, Word, Name}
-use Rattle.txn_print.specs.Canonical.{block_pieces}
 use Rattle.txn_print.specs.Laws.{AreTables}
-use Rattle.txn_print.proofs.LexedLemmas.{Lexed, none, one, Parts, parts}
+use Rattle.txn_print.proofs.LexedLemmas.{Lexed, none, one, parts}
 use Rattle.txn_print.proofs.LinesLaid.{joined}
 use Rattle.txn_print.proofs.PlacesLemmas.{new_name}
 use Rattle.txn_print.proofs.ReadBlocks.{inner}
-use Rattle.txn_print.proofs.CanonicalIsRead.{WholeRead, whole_read}
+use Rattle.txn_print.proofs.CanonicalIsRead.{whole_read}
 use Rattle.script.specs.declared.limits.TheConstants.{MOST_PROGRAMS}
 use Rattle.script.specs.declared.items.Stated.{Stated}
-use Rattle.script.specs.Items.{Item, Program}
-use Rattle.script.specs.Rules.{Rule, Block, Both, Into, Many, Derives}
+use Rattle.script.specs.Items.{Program}
+use Rattle.script.specs.Rules.{Block, Both, Many, Derives}
 use Rattle.script.specs.Grammar.{token, name, program}
-use Rattle.script.specs.Meaning.{Named, Script, Said, prog_of, prog_names, after}
-use Rattle.script.specs.Checks.{check, program_item_checks, checks}
+use Rattle.script.specs.Meaning.{Named, Script, Said, prog_of}
+use Rattle.script.specs.Checks.{check}
 use Rattle.script.specs.Canonical.{program_line}
 use Rattle.script.specs.Sayable.{IsProg}
-use Rattle.script.proofs.SayLemmas.{Says, into_derived, both_derived, token_derived, IsCalm, says_none, says_one, says_both}
+use Rattle.script.proofs.SayLemmas.{Says, into_derived, both_derived, token_derived, says_none, says_one, says_both}
 use Rattle.script.proofs.SaySettings.{pass}
 
 -- a block's first token is a brace, so the run before it does not count

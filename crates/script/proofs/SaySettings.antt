@@ -1,5 +1,5 @@
 -- What the lines of settings say.
-use Rattle.std.proofs.Common.{◌≡◌, ℕ, ◌≤◌, ◌==◌, ◌||◌, ◌&&◌, Bool, true, false, not, cond, List, [], ◌∷◌, ◌++◌, Some, None, refl, sym, ap, ◌∙◌, subst, arith, inl, inr}
+use Rattle.std.proofs.Common.{◌≡◌, ℕ, ◌≤◌, ◌==◌, Bool, true, false, not, cond, List, [], ◌∷◌, Some, None, refl, ap, ◌∙◌, arith, inl, inr}
 use Rattle.std.specs.Prelude.{codes, decimal}
 use Rattle.std.proofs.lemmas.Bool.Decides.{nat_tests}
 use Rattle.txn_text.specs.declared.bytes.TheConstants.{GREATEST_NUMBER}
@@ -10,20 +10,19 @@ use Rattle.txn_text.specs.declared.kinds.Token.{Token}
 use Rattle.txn_text.specs.Tokens.{token_bytes}
 use Rattle.txn_parse.specs.declared.symbols.Symbol.{Symbol}
 use Rattle.txn_parse.specs.declared.symbols.Symbol.TheVariants as symbol
-use Rattle.txn_parse.specs.Symbols.{words, marks, Lexeme, lexeme}
+use Rattle.txn_parse.specs.Symbols.{words, Lexeme, lexeme}
 use Rattle.txn_parse.specs.Binding.{Check, first_failing, number_of}
-use Rattle.txn_print.specs.Piece.{Piece, Word, Number}
 use Rattle.txn_print.proofs.LexedLemmas.{Lexed, none, one}
 use Rattle.txn_print.proofs.ReadTerms.{number_back}
 use Rattle.script.specs.declared.items.SettingName.{SettingName}
 use Rattle.script.specs.declared.items.SettingName.TheVariants as named
 use Rattle.script.specs.declared.setup.Policy.{Policy as PolicyValue}
 use Rattle.script.specs.declared.setup.Policy.TheVariants as policy
-use Rattle.script.specs.Items.{Item, Version, Setting, Policy}
-use Rattle.script.specs.Rules.{Rule, One, Both, Into, Either, Many, Derives}
+use Rattle.script.specs.Items.{Version, Setting, Policy}
+use Rattle.script.specs.Rules.{One, Both, Into, Many}
 use Rattle.script.specs.Grammar.{token, behind, number, version, setting_of, policy_of, number_setting, policy_setting, setting, single}
-use Rattle.script.specs.Meaning.{Script, Said, is_stated, with_setting, with_stated, nothing_said, after}
-use Rattle.script.specs.Checks.{check, may_be, checks}
+use Rattle.script.specs.Meaning.{Said, is_stated, with_setting, with_stated}
+use Rattle.script.specs.Checks.{check, may_be}
 use Rattle.script.specs.Canonical.{setting_line, policy_line}
 use Rattle.script.proofs.SayLemmas.{Says, one_derived, into_derived, both_derived, token_derived, behind_derived, IsCalm, says_single, says_one}
 

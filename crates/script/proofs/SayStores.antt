@@ -1,23 +1,20 @@
 -- What the lines of tables and of first values say.
-use Rattle.std.proofs.Common.{◌≡◌, ℕ, suc, ◌+◌, ◌<◌, ◌≤◌, ◌||◌, Bool, true, false, not, cond, ltb, List, [], ◌∷◌, ◌++◌, map, length, get_or, Some, None, refl, sym, ap, ◌∙◌, subst, arith, inl, inr, ℤ, pos, negsuc, neg_ℤ, nat_le}
-use Rattle.std.specs.Prelude.{codes, decimal}
+use Rattle.std.proofs.Common.{◌≡◌, ℕ, suc, ◌<◌, ◌≤◌, ◌||◌, Bool, true, false, List, [], ◌∷◌, ◌++◌, map, length, refl, sym, ap, ◌∙◌, subst, arith, inl, inr, ℤ, pos, negsuc, neg_ℤ, nat_le}
+use Rattle.std.specs.Prelude.{codes}
 use Rattle.std.specs.List.{AllByRecursion, IsDistinct}
 use Rattle.std.specs.Str.{bytes_eq}
-use Rattle.std.proofs.lemmas.Bool.{le-ltb}
 use Rattle.std.proofs.lemmas.Bool.Decides.{nat_tests}
 use Rattle.std.proofs.lemmas.List.{append_assoc, append-nil, length-append}
 use Rattle.morty_base.specs.declared.names.Key.{Key}
 use Rattle.morty_base.specs.Names.{same_key}
-use Rattle.txn_text.specs.declared.bytes.TheConstants.{GREATEST_NUMBER}
 use Rattle.txn_text.specs.declared.faults.FaultKind.TheVariants as fault
 use Rattle.txn_text.specs.declared.kinds.Token.{Token}
 use Rattle.txn_text.specs.Tokens.{token_bytes}
 use Rattle.txn_lang.specs.declared.tree.BinOp.TheVariants as op
 use Rattle.txn_parse.specs.declared.symbols.Symbol.TheVariants as symbol
 use Rattle.txn_parse.specs.Symbols.{words, marks, Lexeme, lexeme}
-use Rattle.txn_parse.specs.Binding.{Check, first_failing, Names, is_known, is_unknown, place, number_of}
-use Rattle.txn_print.specs.Piece.{Piece, Word, Name, Number, Symbol as Mark, Sign}
-use Rattle.txn_print.specs.Canonical.{name_at}
+use Rattle.txn_parse.specs.Binding.{Names, is_known, is_unknown, place}
+use Rattle.txn_print.specs.Piece.{Symbol as Mark}
 use Rattle.txn_print.specs.Written.{IsWritten}
 use Rattle.txn_print.proofs.LexedLemmas.{Lexed, none, one, Parts, parts}
 use Rattle.txn_print.proofs.LinesLaid.{joined}
@@ -27,11 +24,11 @@ use Rattle.script.specs.declared.limits.TheConstants.{MOST_TABLES}
 use Rattle.script.specs.declared.items.Signed.{Signed}
 use Rattle.script.specs.declared.items.Stated.{Stated}
 use Rattle.script.specs.declared.setup.First.{First as FirstValue}
-use Rattle.script.specs.Items.{Item, Table, First}
-use Rattle.script.specs.Rules.{Rule, One, Both, Into, Either, Many, Derives}
+use Rattle.script.specs.Items.{Table, First}
+use Rattle.script.specs.Rules.{One, Both, Many, Derives}
 use Rattle.script.specs.Grammar.{token, behind, number, name, minus_of, signed as signed_rule, table, first, store}
-use Rattle.script.specs.Meaning.{Script, Said, signed, first_of, after}
-use Rattle.script.specs.Checks.{check, has_first, checks}
+use Rattle.script.specs.Meaning.{Script, Said, signed, first_of}
+use Rattle.script.specs.Checks.{check, has_first}
 use Rattle.script.specs.Canonical.{table_line, signed_pieces, first_line}
 use Rattle.script.specs.Sayable.{IsFirst}
 use Rattle.script.proofs.SayLemmas.{Says, one_derived, into_derived, both_derived, token_derived, behind_derived, IsCalm, calm_both, says_none, says_one, says_both}

@@ -1,6 +1,6 @@
 -- The scripts that some text says, told by their parts: the limits of scripts, names that are distinct and known, and
 -- numbers that a text may have.
-use Rattle.std.specs.Prelude.{◌≡◌, ℕ, ◌<◌, ◌≤◌, true, false, List, [], ◌∷◌, map, length, ⊤}
+use Rattle.std.specs.Prelude.{◌≡◌, ℕ, ◌<◌, ◌≤◌, true, false, List, map, length, ⊤}
 use Rattle.std.specs.List.{list_all, AllByRecursion, IsDistinct}
 use Rattle.std.specs.Str.{bytes_eq}
 use Rattle.morty_base.specs.declared.names.Version.{Version}

@@ -1,26 +1,22 @@
 -- The canonical text of a program is read as that program.
-use Rattle.std.proofs.Common.{◌≡◌, ℕ, ◌+◌, ◌≤◌, Bool, true, false, List, [], ◌∷◌, ◌++◌, length, take, refl, sym, ap, ◌∙◌, subst, arith}
+use Rattle.std.proofs.Common.{◌≡◌, ℕ, Bool, true, false, List, [], ◌∷◌, ◌++◌, length, take, refl, sym, ap, ◌∙◌, subst, arith}
 use Rattle.std.proofs.lemmas.List.{append-nil}
 use Rattle.txn_lang.specs.declared.limits.TheConstants.{DEEPEST_BLOCK}
 use Rattle.txn_lang.specs.Tree as lang
 use Rattle.txn_lang.specs.Limits.{IsWithin}
 use Rattle.txn_lang.specs.Form.{IsWellFormed}
-use Rattle.txn_lang.specs.Program.{Program, IsProgram}
 use Rattle.txn_text.specs.Layout.{ended}
 use Rattle.txn_text.specs.declared.faults.FaultKind.TheVariants.{ProgramLimit}
-use Rattle.txn_text.specs.declared.kinds.Token.{Token}
-use Rattle.txn_text.specs.Tokens.{tokens_of}
 use Rattle.txn_text.proofs.LayoutLemmas.{laid_out_is_read}
 use Rattle.txn_parse.specs.Symbols.{Lexeme, lexemes}
-use Rattle.txn_parse.specs.Binding.{first_failing, Names, names_of, bound, bound_body, passes_limit, table_checks, local_checks, limit_check, block_checks}
+use Rattle.txn_parse.specs.Binding.{first_failing, Names, names_of, bound, bound_body, passes_limit, table_checks, local_checks, limit_check}
 use Rattle.txn_parse.proofs.NamesLemmas.{none_first}
 use Rattle.txn_parse.proofs.ResolveLemmas.{within_passes}
-use Rattle.txn_print.specs.Piece.{Piece, text_of}
 use Rattle.txn_print.specs.Canonical.{program_pieces, block_pieces, canonical}
-use Rattle.txn_print.specs.Spelling.{SpellAll, ArePieces}
+use Rattle.txn_print.specs.Spelling.{SpellAll}
 use Rattle.txn_print.specs.Written.{AreWritten}
-use Rattle.txn_print.specs.Laws.{AreTables, IsTextOf, CanonicalIsRead}
-use Rattle.txn_print.proofs.LaidLemmas.{AreLaid, are_laid}
+use Rattle.txn_print.specs.Laws.{AreTables, CanonicalIsRead}
+use Rattle.txn_print.proofs.LaidLemmas.{are_laid}
 use Rattle.txn_print.proofs.LexedLemmas.{Lexed, lexed}
 use Rattle.txn_print.proofs.PiecesLemmas.{block_are}
 use Rattle.txn_print.proofs.ReadBlocks.{BlockRead}

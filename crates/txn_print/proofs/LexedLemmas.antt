@@ -1,6 +1,5 @@
 -- Pieces as a grammar sees their tokens.
-use Rattle.std.proofs.Common.{◌≡◌, ℕ, ◌+◌, List, [], ◌∷◌, ◌++◌, length, refl, sym, ap, ◌∙◌, subst, arith}
-use Rattle.std.specs.Prelude.{codes}
+use Rattle.std.proofs.Common.{◌≡◌, ℕ, List, [], ◌∷◌, ◌++◌, length, refl, sym, ap, ◌∙◌, subst, arith}
 use Rattle.txn_lang.specs.declared.tree.BinOp.{BinOp}
 use Rattle.txn_lang.specs.declared.tree.BinOp.TheVariants as op
 use Rattle.txn_text.specs.declared.kinds.Token.{Token}
@@ -9,7 +8,7 @@ use Rattle.txn_text.specs.Tokens.{token_bytes}
 use Rattle.txn_parse.specs.declared.symbols.Symbol.{Symbol}
 use Rattle.txn_parse.specs.declared.symbols.Symbol.TheVariants as symbol
 use Rattle.txn_parse.specs.Symbols.{words, marks, symbol_by, symbol_of, Lexeme, lexeme, lexemes}
-use Rattle.txn_print.specs.Piece.{Piece, Word, Name, Number, Symbol as Mark, Sign, bytes_of}
+use Rattle.txn_print.specs.Piece.{Piece, bytes_of}
 use Rattle.txn_print.specs.Canonical.{operator_piece}
 use Rattle.txn_print.specs.Spelling.{kind_of, Spells, SpellAll}
 

@@ -1,5 +1,5 @@
 -- What a printer holds once lines were printed.
-use Rattle.std.proofs.Common.{◌≡◌, ◌+◌, true, List, [], ◌∷◌, ◌++◌, refl, sym, ap, ◌∙◌}
+use Rattle.std.proofs.Common.{◌≡◌, true, List, [], ◌∷◌, ◌++◌, refl, sym, ap, ◌∙◌}
 use Rattle.std.proofs.lemmas.List.{append_assoc, append-nil}
 use Rattle.txn_print.specs.declared.printer.Printer.{Printer}
 use Rattle.txn_print.specs.Piece.{Piece, text_of, line_text, lines_text}

@@ -1,7 +1,7 @@
 -- The text of lines lies as the tokens of their pieces.
-use Rattle.std.proofs.Common.{◌≡◌, ℕ, ◌+◌, ◌≤◌, true, List, [], ◌∷◌, ◌++◌, length, drop, refl, sym, ap, ◌∙◌, subst, arith}
-use Rattle.std.specs.Prelude.{flat_map, Ok}
-use Rattle.std.proofs.lemmas.List.{append_assoc, append-nil, length-append, drop-drop, drop_at}
+use Rattle.std.proofs.Common.{◌≡◌, ℕ, ◌+◌, true, List, [], ◌∷◌, ◌++◌, length, drop, refl, sym, ap, ◌∙◌, arith}
+use Rattle.std.specs.Prelude.{Ok}
+use Rattle.std.proofs.lemmas.List.{append_assoc, length-append, drop-drop, drop_at}
 use Rattle.txn_text.specs.declared.kinds.Token.{Token}
 use Rattle.txn_text.specs.Tokens.{tokens_of}
 use Rattle.txn_text.specs.Layout.{IsLaidOutFrom, ended, blank}

@@ -1,18 +1,17 @@
 -- The pieces of programs have the bytes of their kinds.
-use Rattle.std.proofs.Common.{◌≡◌, ℕ, zero, suc, ◌+◌, ◌<◌, ◌≤◌, true, false, ◌&&◌, List, [], ◌∷◌, ◌++◌, length, get_or, cond, ltb, refl, sym, ap, ◌∙◌, subst, arith}
-use Rattle.std.specs.Prelude.{codes, unsigned_abs}
+use Rattle.std.proofs.Common.{◌≡◌, ℕ, zero, suc, ◌+◌, ◌<◌, true, List, [], ◌∷◌, ◌++◌, length, get_or, ltb, refl, ap, ◌∙◌, arith}
+use Rattle.std.specs.Prelude.{codes}
 use Rattle.std.specs.List.{list_all}
 use Rattle.std.proofs.lemmas.Bool.{cond_both, and_parts}
 use Rattle.std.proofs.lemmas.Option.{unwrap_or-slice_get}
 use Rattle.morty_base.specs.ScriptNames.{is_name, is_reserved, is_setting_word, is_item_word, is_net_word, is_plan_word, is_statement_word}
-use Rattle.txn_lang.specs.declared.limits.TheConstants.{MOST_TIMES}
 use Rattle.txn_lang.specs.declared.tree.BinOp.{BinOp}
 use Rattle.txn_lang.specs.declared.tree.BinOp.TheVariants as op
 use Rattle.txn_lang.specs.Tree.{Term, Num, Local, Neg, Not, Bin, Command, Let, Read, Write, Print, If, Repeat, Abort, Commands, End, Then}
 use Rattle.txn_lang.specs.Value.{UsesBelow}
 use Rattle.txn_lang.specs.Limits.{operator_level, left_level, level, FitsIn, Fits}
 use Rattle.txn_parse.specs.Binding.{Names}
-use Rattle.txn_print.specs.Piece.{Piece, Word, Name, Number, Symbol, Sign}
+use Rattle.txn_print.specs.Piece.{Piece, Symbol}
 use Rattle.txn_print.specs.Canonical.{name_at, operator_piece, operand, term_pieces, index_pieces, in_braces, command_pieces, first_pieces, more_pieces, else_pieces, block_pieces}
 use Rattle.txn_print.specs.Spelling.{IsPiece, ArePieces}
 use Rattle.txn_print.specs.Written.{HasNumbers, IsWrittenIn, AreWritten}

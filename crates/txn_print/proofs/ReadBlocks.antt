@@ -1,31 +1,30 @@
 -- The pieces of a program's block are read as that block.
-use Rattle.std.proofs.Common.{◌≡◌, ℕ, zero, suc, ◌+◌, ◌<◌, ◌≤◌, Bool, true, false, not, cond, max, List, [], ◌∷◌, ◌++◌, length, take, Some, None, refl, sym, ap, ◌∙◌, subst, arith}
+use Rattle.std.proofs.Common.{◌≡◌, ℕ, suc, ◌<◌, ◌≤◌, Bool, true, not, cond, List, [], ◌∷◌, ◌++◌, length, take, Some, None, refl, sym, ap, ◌∙◌, subst, arith}
 use Rattle.std.specs.Prelude.{codes, decimal}
 use Rattle.std.specs.List.{IsDistinct}
 use Rattle.std.specs.Str.{bytes_eq}
 use Rattle.std.proofs.lemmas.List.{append_assoc, append-nil, map-append}
 use Rattle.txn_lang.specs.declared.limits.TheConstants.{LONGEST_EXPRESSION, MOST_TIMES}
 use Rattle.txn_lang.specs.Tree as lang
-use Rattle.txn_lang.specs.Limits.{depth_in, depth, IsShort, FitsIn, Fits}
-use Rattle.txn_lang.specs.Form.{with_target, placed_in, placed_after, IsFilled, IsFormedTerm, IsFormedIn, IsFormed}
-use Rattle.txn_text.specs.declared.bytes.TheConstants.{GREATEST_NUMBER}
+use Rattle.txn_lang.specs.Limits.{IsShort}
+use Rattle.txn_lang.specs.Form.{with_target, placed_in, placed_after, IsFormedTerm}
 use Rattle.txn_text.specs.declared.faults.FaultKind.TheVariants.{UnknownTable}
 use Rattle.txn_text.specs.declared.faults.TextFault.TheVariants.{At}
 use Rattle.txn_text.specs.declared.kinds.Token.{Token}
 use Rattle.txn_text.specs.Tokens.{token_bytes}
 use Rattle.txn_parse.specs.declared.symbols.Symbol.TheVariants as symbol
-use Rattle.txn_parse.specs.Symbols.{words, marks, Lexeme, lexeme}
-use Rattle.txn_parse.specs.Tree.{Term, Command, Let, Read, Write, Print, If, Repeat, Abort, Commands, End, Then}
-use Rattle.txn_parse.specs.Grammar.{Limits, Within, IsOutermost, IsStmt, sets, reads, writes, prints, chooses, chooses_else, repeats, aborts, IsBlock, braced, IsStmts, last, more as further}
-use Rattle.txn_parse.specs.Binding.{Check, first_failing, Names, is_known, place, number_of, with_name, known_checks, tables_in, tables_of, names_in, names_after, used_checks, local_checks_in, local_checks, most_times_in, most_times, bound_term, bound_in, bound}
+use Rattle.txn_parse.specs.Symbols.{marks, Lexeme, lexeme}
+use Rattle.txn_parse.specs.Tree.{Term, Command, Let, Read, Write, Print, If, Repeat, Commands, End, Then}
+use Rattle.txn_parse.specs.Grammar.{Limits, Within, IsOutermost, IsStmt, sets, reads, writes, prints, chooses, chooses_else, repeats, IsBlock, braced, IsStmts, last, more as further}
+use Rattle.txn_parse.specs.Binding.{Check, first_failing, Names, is_known, place, with_name, known_checks, tables_in, tables_of, names_in, names_after, used_checks, local_checks_in, local_checks, most_times_in, most_times, bound_term, bound_in, bound}
 use Rattle.txn_parse.proofs.NamesLemmas.{none_first}
-use Rattle.txn_print.specs.Piece.{Piece, Word, Name, Number, Symbol as Mark}
-use Rattle.txn_print.specs.Canonical.{name_at, term_pieces, index_pieces, in_braces, command_pieces, first_pieces, more_pieces, else_pieces, block_pieces}
-use Rattle.txn_print.specs.Written.{HasNumbers, IsWrittenIn, AreWritten}
+use Rattle.txn_print.specs.Piece.{Piece, Symbol as Mark}
+use Rattle.txn_print.specs.Canonical.{term_pieces, index_pieces}
+use Rattle.txn_print.specs.Written.{HasNumbers}
 use Rattle.txn_print.proofs.CountLemmas.{pieces_are_counted}
 use Rattle.txn_print.proofs.LexedLemmas.{Lexed, none, one, Parts, parts, length-lexed}
 use Rattle.txn_print.proofs.PlacesLemmas.{name_of, place_of, known_here, target_named}
-use Rattle.txn_print.proofs.ReadTerms.{TermRead, term_read, bare_level, bare_some, number_back, name_spelled}
+use Rattle.txn_print.proofs.ReadTerms.{term_read, bare_level, bare_some, number_back}
 use Rattle.txn_parse.proofs.PendingLemmas.{loosened}
 
 -- the limits of programs in which so many blocks may be opened

@@ -1,5 +1,5 @@
 -- The canonical text of a program is read as that program.
-use Rattle.std.proofs.Common.{◌≡◌, ℕ, zero, suc, ◌+◌, ◌<◌, ◌≤◌, List, [], ◌∷◌, ◌++◌, length, refl, sym, ap, ◌∙◌, subst, arith}
+use Rattle.std.proofs.Common.{◌≡◌, ℕ, zero, suc, ◌<◌, ◌≤◌, List, [], ◌∷◌, ◌++◌, length, refl, sym, subst, arith}
 use Rattle.std.specs.Prelude.{codes}
 use Rattle.std.specs.List.{IsDistinct}
 use Rattle.std.specs.Str.{bytes_eq}
@@ -8,17 +8,15 @@ use Rattle.txn_lang.specs.Tree as lang
 use Rattle.txn_lang.specs.Limits.{depth_in, depth, FitsIn, Fits}
 use Rattle.txn_lang.specs.Form.{placed_in, placed_after, IsFilled, IsFormedIn, IsFormed}
 use Rattle.txn_text.specs.declared.kinds.Token.{Token}
-use Rattle.txn_text.specs.Tokens.{token_bytes}
 use Rattle.txn_parse.specs.declared.symbols.Symbol.TheVariants as symbol
 use Rattle.txn_parse.specs.Symbols.{words, marks, Lexeme, lexeme}
 use Rattle.txn_parse.specs.Grammar.{aborts}
 use Rattle.txn_parse.specs.Tree.{Abort}
 use Rattle.txn_parse.specs.Binding.{Names}
-use Rattle.txn_print.specs.Piece.{Piece, Word, Name, Number, Symbol as Mark}
-use Rattle.txn_print.specs.Canonical.{name_at, term_pieces, index_pieces, in_braces, command_pieces, first_pieces, more_pieces, else_pieces, block_pieces}
+use Rattle.txn_print.specs.Piece.{Piece, Symbol as Mark}
+use Rattle.txn_print.specs.Canonical.{term_pieces, index_pieces, in_braces, command_pieces, more_pieces, else_pieces, block_pieces}
 use Rattle.txn_print.specs.Written.{IsWrittenIn, AreWritten}
 use Rattle.txn_print.proofs.LexedLemmas.{Lexed, none, one, Parts, parts}
-use Rattle.txn_print.proofs.PlacesLemmas.{name_of}
 use Rattle.txn_print.proofs.ReadTerms.{name_spelled}
 use Rattle.txn_print.proofs.ReadBlocks.{inner, StmtRead, MoreRead, BlockRead, ElseRead, no_more, more_then, braces, no_else, some_else, expr, let_read, index_read, read_read, write_read, print_read, if_read, repeat_read}
 

@@ -1,5 +1,5 @@
 -- The pieces of an expression are read as that expression.
-use Rattle.std.proofs.Common.{◌≡◌, ℕ, zero, suc, ◌+◌, ◌-◌, ◌<◌, ◌≤◌, Bool, true, false, not, cond, ltb, List, [], ◌∷◌, ◌++◌, length, take, drop, Some, None, refl, sym, ap, ◌∙◌, subst, arith, ℤ, pos, negsuc, ⊎_elim, map}
+use Rattle.std.proofs.Common.{◌≡◌, ℕ, suc, ◌+◌, ◌≤◌, Bool, true, not, cond, ltb, List, [], ◌∷◌, ◌++◌, length, take, Some, None, refl, sym, ap, ◌∙◌, subst, arith, ℤ, pos, negsuc, ⊎_elim}
 use Rattle.std.specs.Prelude.{codes, decimal, unsigned_abs}
 use Rattle.std.specs.List.{IsDistinct}
 use Rattle.std.specs.Str.{bytes_eq}
@@ -27,11 +27,11 @@ use Rattle.txn_parse.specs.Grammar.{IsExpr, number, local, negative, denied, gro
 use Rattle.txn_parse.specs.Binding.{first_failing, Names, is_known, place, number_of, bound_term, locals_of, used_checks}
 use Rattle.txn_parse.proofs.PendingLemmas.{level_some, loosened}
 use Rattle.txn_parse.proofs.NamesLemmas.{none_first}
-use Rattle.txn_print.specs.Piece.{Piece, Word, Name, Number, Symbol as Mark, Sign, bytes_of}
+use Rattle.txn_print.specs.Piece.{Piece, Symbol as Mark, bytes_of}
 use Rattle.txn_print.specs.Canonical.{name_at, operator_piece, operand, term_pieces}
 use Rattle.txn_print.specs.Written.{HasNumbers}
 use Rattle.txn_print.proofs.LaidLemmas.{number-decimal}
-use Rattle.txn_print.proofs.LexedLemmas.{Lexed, none, one, symbol_at, Parts, parts, operator_symbol}
+use Rattle.txn_print.proofs.LexedLemmas.{Lexed, none, one, Parts, parts, operator_symbol}
 use Rattle.txn_print.proofs.PlacesLemmas.{name_of, place_of, known_of}
 
 -- the level at which an expression is read without parentheses
