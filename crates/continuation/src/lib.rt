@@ -6,7 +6,8 @@
 //! `specs/Job` (what a job's run is). Then the proof: a run of code has done a part of what its actions do, and has the
 //! rest to do (`specs/Underway`); one operation moves a part over (`proofs/Moving`), until the run asks or ends
 //! (`Stopping`); the segment that it then is, is the suffix of the replay (`Suffix`), and the place where it asks the one
-//! to which the code comes on the answers (`Places`).
+//! to which the code comes on the answers (`Places`). Code may be seen from several threads, and what was done of a
+//! segment may go to another (`Crossing`).
 #![tactic(auto)]
 
 mod done;

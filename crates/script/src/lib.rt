@@ -13,7 +13,8 @@
 //! nothing goes on (`Found`, `ReadingRules`, `RulesAreRead`, `RulesAnswer`). So where reading stops, the next token is bad
 //! (`Stopping`). The rules of scripts fit (`GrammarFits`), over the laws of blocks (`BlocksAreRead`). Hence the second
 //! stage is decided (`StageTwo`), and a text has one outcome (`OneOutcome`). The code reads by groups
-//! (`GroupLemmas`), lists item by item (`ListedLemmas`), and tokens one by one (`Taking`). The items of a text are
+//! (`GroupLemmas`), lists item by item (`ListedLemmas`), and tokens one by one (`Taking`); the line in which the text ends
+//! is counted from its last token's (`LastLine`). The items of a text are
 //! readable (`ReadableItems`): names are names, and blocks were read. So each is taken by its checks, what it names found by
 //! a search (`BuilderLemmas`), and all of them say the text's setup (`ReadLemmas`).
 //!
