@@ -14,7 +14,7 @@ use Rattle.protocol.specs.Client.State.Phase.{Running}
 use Rattle.protocol.specs.Client.Attempts.{can_go, go, ran}
 use Rattle.protocol.specs.Client.Step.{client_step, comes, on_ran}
 use Rattle.protocol.specs.Client.Step.Input.{Comes, Goes, Runs as RunsInput}
-use Rattle.execution.specs.Execution.{Loaded, is_pending}
+use Rattle.coordinator.specs.Execution.{Loaded, is_pending}
 use Rattle.coordinator.specs.declared.memory.Txn2.{Txn2}
 use Rattle.coordinator.specs.declared.memory.Stage.{Stage}
 use Rattle.coordinator.specs.declared.memory.Stage.TheVariants as stage

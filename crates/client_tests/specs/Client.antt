@@ -3,7 +3,7 @@ use Rattle.std.specs.Prelude.{◌≡◌, [], ◌∷◌}
 use Rattle.flat_code.specs.Operation.{Flat}
 use Rattle.protocol.specs.Client.State as protocol
 use Rattle.protocol.specs.Client.State.{ClientState}
-use Rattle.execution.specs.Execution.{Loaded}
+use Rattle.coordinator.specs.Execution.{Loaded}
 use Rattle.coordinator.specs.Coordinator.{StandsFor}
 use Rattle.coordinator.specs.declared.coordinator.Coordinator.{Coordinator}
 

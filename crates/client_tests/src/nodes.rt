@@ -1,7 +1,7 @@
 //! Two clients and a replica.
 
 ghost use Rattle.std.specs.Prelude.{IsTrue};
-ghost use Rattle.replica.specs.Limits.{IsWithinLimits};
+ghost use Rattle.protocol.specs.Replica.Limits.{IsWithinLimits};
 
 use crate::bodies::{Said, body};
 use crate::client::Client;

@@ -10,13 +10,13 @@ use Rattle.protocol.specs.Client.State as protocol
 use Rattle.protocol.specs.Client.State.{ClientState}
 use Rattle.protocol.specs.declared.Fate.TheVariants.{Live}
 use Rattle.protocol.specs.Client.Attempts.{begin, bumped, can_go, go, is_aborted, is_between, next_version, start_of, tries_again}
-use Rattle.execution.specs.Execution as execution
-use Rattle.execution.specs.Execution.{fresh_execution}
+use Rattle.coordinator.specs.Execution as execution
+use Rattle.coordinator.specs.Execution.{fresh_execution}
 use Rattle.coordinator.specs.declared.memory.Txn2.{Txn2}
 use Rattle.coordinator.specs.declared.memory.Course.{Course}
 use Rattle.coordinator.specs.declared.memory.Memory.{Memory}
 use Rattle.coordinator.specs.Memory.{Given, StandsFor, txn_in, current, start_in, due_version, begun_memory}
-use Rattle.execution.specs.Execution.{Loaded}
+use Rattle.coordinator.specs.Execution.{Loaded}
 use Rattle.coordinator.proofs.MemoryLemmas.{begun_before}
 use Rattle.std.specs.Bool.{then_some}
 use Rattle.protocol.specs.Client.Step.{client_step}

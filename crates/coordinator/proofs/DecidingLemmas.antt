@@ -12,9 +12,9 @@ use Rattle.protocol.specs.Client.State.{Answer, ClientState, CountedVote, Phase,
 use Rattle.protocol.specs.Client.State.Phase.{Between, Running, Prepared}
 use Rattle.protocol.specs.Client.Attempts.{bumped, is_between, prepare_if_ready}
 use Rattle.protocol.specs.Client.Deciding.{conclude, cut, ended, give_up, is_change, moved_on, next_exec, next_execution, noted, other_value, puts_again, relabelled, rewound}
-use Rattle.execution.specs.Execution as execution
-use Rattle.execution.specs.Execution.{answers_of, is_pending, shown}
-use Rattle.execution.specs.declared.execution.Execution.{Execution}
+use Rattle.coordinator.specs.Execution as execution
+use Rattle.coordinator.specs.Execution.{answers_of, is_pending, shown}
+use Rattle.coordinator.specs.declared.execution.Execution.{Execution}
 use Rattle.coordinator.specs.declared.memory.Course.{Course}
 use Rattle.coordinator.specs.declared.memory.Ballot.{Ballot}
 use Rattle.coordinator.specs.declared.memory.Stage.{Stage}

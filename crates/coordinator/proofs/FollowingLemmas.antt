@@ -14,10 +14,10 @@ use Rattle.protocol.specs.Client.Following.{answer_at, answered, answers_questio
 use Rattle.protocol.specs.Client.Following.{Effect}
 use Rattle.protocol.specs.Client.Following.Effect.{Nothing, Sure, Follow}
 use Rattle.exec_log.specs.declared.read.LogRead.{LogRead}
-use Rattle.execution.specs.Answers.{answers_with}
-use Rattle.execution.specs.Execution as execution
-use Rattle.execution.specs.Execution.{answers_of, is_pending, keys_of}
-use Rattle.execution.specs.declared.execution.Execution.{Execution}
+use Rattle.coordinator.specs.Answers.{answers_with}
+use Rattle.coordinator.specs.Execution as execution
+use Rattle.coordinator.specs.Execution.{answers_of, is_pending, keys_of}
+use Rattle.coordinator.specs.declared.execution.Execution.{Execution}
 use Rattle.coordinator.specs.declared.memory.Course.{Course}
 use Rattle.coordinator.specs.declared.memory.Stage.TheVariants as stage
 use Rattle.coordinator.specs.declared.memory.Memory.{Memory}

@@ -9,9 +9,9 @@ use Rattle.continuation.specs.Job.{FitsCode, FitsCodes}
 use Rattle.exec_log.proofs.LastJobs.{last_fits}
 use Rattle.protocol.specs.Client.State.{ClientState}
 use Rattle.protocol.specs.Client.Attempts.{has_pending}
-use Rattle.execution.specs.Execution as execution
-use Rattle.execution.specs.Execution.{Loaded, is_pending}
-use Rattle.execution.specs.declared.execution.Execution.{Execution}
+use Rattle.coordinator.specs.Execution as execution
+use Rattle.coordinator.specs.Execution.{Loaded, is_pending}
+use Rattle.coordinator.specs.declared.execution.Execution.{Execution}
 use Rattle.coordinator.specs.declared.memory.Txn2.{Txn2}
 use Rattle.coordinator.specs.declared.memory.Course.{Course}
 use Rattle.coordinator.specs.declared.memory.Stage.{Stage}

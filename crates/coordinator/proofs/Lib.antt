@@ -1,3 +1,9 @@
+pub mod AnswersLemmas
+pub mod ShownWalk
+pub mod SegmentWrites
+pub mod ContentLemmas
+pub mod ExecutionLemmas
+pub mod MovingLemmas
 pub mod MemoryLemmas
 pub mod AttemptLemmas
 pub mod SegmentLemmas

@@ -7,7 +7,7 @@ use Rattle.protocol.specs.Client.State.{ClientState, Phase, Txn, walk, walk_at, 
 use Rattle.protocol.specs.Client.State.Phase.{Between, Running, Prepared}
 use Rattle.protocol.specs.Client.Attempts.{is_aborted, is_between}
 use Rattle.protocol.specs.Client.Step.{on_hurry}
-use Rattle.execution.specs.Execution.{Loaded, walk_of}
+use Rattle.coordinator.specs.Execution.{Loaded, walk_of}
 use Rattle.coordinator.specs.declared.memory.Txn2.{Txn2}
 use Rattle.coordinator.specs.declared.memory.Course.{Course}
 use Rattle.coordinator.specs.declared.memory.Proposed.{Proposed}

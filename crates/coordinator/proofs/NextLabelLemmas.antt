@@ -9,9 +9,9 @@ use Rattle.protocol.specs.Client.Following.{answer_at, effect, follow_prepared, 
 use Rattle.protocol.specs.Client.Following.{Effect}
 use Rattle.protocol.specs.Client.Following.Effect.{Sure, Follow}
 use Rattle.exec_log.specs.Log.{Log}
-use Rattle.execution.specs.Execution as execution
-use Rattle.execution.specs.Execution.{answers_of, keys_of}
-use Rattle.execution.specs.declared.execution.Execution.{Execution}
+use Rattle.coordinator.specs.Execution as execution
+use Rattle.coordinator.specs.Execution.{answers_of, keys_of}
+use Rattle.coordinator.specs.declared.execution.Execution.{Execution}
 use Rattle.coordinator.specs.declared.memory.Memory.{Memory}
 use Rattle.coordinator.specs.Memory.{Given, StandsFor, Takes, current}
 use Rattle.coordinator.proofs.SegmentLemmas.{keys_now}

@@ -8,9 +8,9 @@ use Rattle.exec_log.specs.Standing.{IsLastJob}
 use Rattle.exec_log.proofs.OneJob.{one_last_job}
 use Rattle.protocol.specs.Client.State as protocol
 use Rattle.protocol.specs.Client.State.{ClientState, values}
-use Rattle.execution.specs.Execution as execution
-use Rattle.execution.specs.Execution.{Loaded, is_pending}
-use Rattle.execution.proofs.AnswersLemmas.{values_with}
+use Rattle.coordinator.specs.Execution as execution
+use Rattle.coordinator.specs.Execution.{Loaded, is_pending}
+use Rattle.coordinator.proofs.AnswersLemmas.{values_with}
 use Rattle.coordinator.specs.declared.memory.Txn2.{Txn2}
 use Rattle.coordinator.specs.declared.memory.Course.{Course}
 use Rattle.coordinator.specs.declared.memory.Memory.{Memory}

@@ -12,12 +12,12 @@ use Rattle.protocol.specs.Client.State as protocol
 use Rattle.protocol.specs.Client.State.{Answer, ClientState, Phase, Turn, Walk, content, is_done, may_put, reads_of, values, walk, walk_at}
 use Rattle.protocol.specs.Client.State.Phase.{Between, Running, Prepared}
 use Rattle.protocol.specs.Client.Attempts.{front, is_between, prepare_if_ready, prepare_when, question, ran, wrote}
-use Rattle.execution.specs.Execution as execution
-use Rattle.execution.specs.Execution.{Loaded, answers_of, content_of, is_pending, keys_of, shown, walk_of}
-use Rattle.execution.specs.declared.execution.Execution.{Execution}
-use Rattle.execution.proofs.ShownWalk.{keys_shown, walk_shown}
-use Rattle.execution.proofs.SegmentWrites.{has_more_writes, segment_wrote}
-use Rattle.execution.proofs.ExecutionLemmas.{waits}
+use Rattle.coordinator.specs.Execution as execution
+use Rattle.coordinator.specs.Execution.{Loaded, answers_of, content_of, is_pending, keys_of, shown, walk_of}
+use Rattle.coordinator.specs.declared.execution.Execution.{Execution}
+use Rattle.coordinator.proofs.ShownWalk.{keys_shown, walk_shown}
+use Rattle.coordinator.proofs.SegmentWrites.{has_more_writes, segment_wrote}
+use Rattle.coordinator.proofs.ExecutionLemmas.{waits}
 use Rattle.coordinator.specs.declared.memory.Course.{Course}
 use Rattle.coordinator.specs.declared.memory.Ballot.{Ballot}
 use Rattle.coordinator.specs.declared.memory.Stage.{Stage}

@@ -1,3 +1,6 @@
+pub mod Answers
+pub mod Moving
+pub mod Execution
 pub mod Memory
 pub mod Following
 pub mod Coordinator

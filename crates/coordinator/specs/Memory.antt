@@ -8,9 +8,9 @@ use Rattle.protocol.specs.Client.State.{ClientState, Txn, Turn, Phase}
 use Rattle.protocol.specs.Client.State.Phase.{Between, Running, Prepared}
 use Rattle.flat_code.specs.Operation.{Flat}
 use Rattle.continuation.specs.declared.segment.Job.{Job}
-use Rattle.execution.specs.Execution as execution
-use Rattle.execution.specs.Execution.{Loaded, walk_of, answers_of, is_pending, fresh_execution}
-use Rattle.execution.specs.declared.execution.Execution.{Execution}
+use Rattle.coordinator.specs.Execution as execution
+use Rattle.coordinator.specs.Execution.{Loaded, walk_of, answers_of, is_pending, fresh_execution}
+use Rattle.coordinator.specs.declared.execution.Execution.{Execution}
 use Rattle.coordinator.specs.declared.memory.Txn2.{Txn2}
 use Rattle.coordinator.specs.declared.memory.Plan.{Plan}
 use Rattle.coordinator.specs.declared.memory.Course.{Course}

@@ -3,11 +3,11 @@
 ghost use Rattle.std.specs.Prelude.{◌≡◌, ◌<◌, ◌≤◌, ◌+◌, ◌-◌, [], true, false, Option, length, nat_lt, IsTrue};
 ghost use Rattle.protocol.specs.Client.State.{ClientState};
 ghost use Rattle.protocol.specs.Client.Attempts.{tries_again, can_go, is_between, next_version, start_of, begin, go};
-ghost use Rattle.execution.specs.Execution.{Loaded, StandsFor as RunsAs};
+ghost use Rattle.coordinator.specs.Execution.{Loaded, StandsFor as RunsAs};
 ghost use Rattle.coordinator.specs.Memory.{Given, StandsFor, begun_memory, due_version};
 
+use crate::execution::Execution;
 use crate::memory::{Course, Memory, Plan, Stage};
-use execution::Execution;
 use morty_base::{Exec, Version};
 use protocol::Fate;
 use std::alloc::Global;

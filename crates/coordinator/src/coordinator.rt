@@ -6,9 +6,9 @@ ghost use Rattle.protocol.specs.Client.Step.{client_step, on_hurry};
 ghost use Rattle.protocol.specs.Client.Step.Input.{Goes, Runs, Hurries, Comes};
 ghost use Rattle.coordinator.specs.Memory.{Given, IsWithinLimits, NamePrograms, awaits, codes_of, pending_job, rules_of};
 
+use crate::execution::Execution;
 use crate::memory::{Attempt, Course, Memory, Plan, Rules, Stage, Txn2};
 use continuation::{Done, Job};
-use execution::Execution;
 use morty_base::{Exec, List, NoMemory, Version};
 use msg::Envelope;
 use protocol::Fate;

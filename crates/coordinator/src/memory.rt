@@ -2,7 +2,7 @@ ghost use Rattle.std.specs.Prelude.{◌≡◌, ◌++◌, IfOk, OnOk, OnErr, flat
 ghost use Rattle.protocol.specs.Words.{Client};
 ghost use Rattle.protocol.specs.World.Events.{to_all};
 
-use execution::Execution;
+use crate::execution::Execution;
 use morty_base::{Exec, List, NoMemory, NodeId};
 use msg::{Body, Choice, Content, Envelope};
 use protocol::{Fate, send_to_all};

@@ -9,7 +9,7 @@ ghost use Rattle.protocol.specs.Client.State.Phase.{Running, Prepared};
 ghost use Rattle.protocol.specs.Client.Attempts.{question, prepare_if_ready, ran};
 ghost use Rattle.continuation.specs.Job.{IsJobRun};
 ghost use Rattle.exec_log.specs.Log.{asked_by, ending_by};
-ghost use Rattle.execution.specs.Execution.{Loaded, answers_of, is_pending};
+ghost use Rattle.coordinator.specs.Execution.{Loaded, answers_of, is_pending};
 ghost use Rattle.coordinator.specs.Memory.{Given, StandsFor, Takes, awaits, current, is_awaiting, pending_job, prog_of};
 
 use crate::jobs::is_same_place;

@@ -4,7 +4,7 @@ use Rattle.std.specs.Prelude.{IfSome}
 use Rattle.protocol.specs.Words.{Body, Content, BaseEntry, Puts, Prepare, Finalize, Decide, Drops, key_before}
 use Rattle.protocol.proofs.NamesLemmas.{key_trans}
 use Rattle.wire.specs.Sendable.{IsShort, IsFit}
-use Rattle.replica.specs.Limits.{HasFewWrites, IsWithinLimits}
+use Rattle.protocol.specs.Replica.Limits.{HasFewWrites, IsWithinLimits}
 use Rattle.law_frames.specs.Handling.{SendableIsWithinLimits}
 use Rattle.law_frames.proofs.RisingLemmas.{rising_by}
 

@@ -5,7 +5,7 @@ use Rattle.protocol.specs.Words.{Exec, Envelope, Event}
 use Rattle.protocol.specs.Warden.Recovery.{next_view}
 use Rattle.protocol.specs.World.State.{Plan, World, first_world, in_range, warden_rules}
 use Rattle.protocol.specs.World.Events.{replay_from}
-use Rattle.replica.specs.Limits.{IsWithinLimits}
+use Rattle.protocol.specs.Replica.Limits.{IsWithinLimits}
 use Rattle.recovery.specs.Round.{last_view}
 use Rattle.law_frames.specs.Limits.{PlanIsWithinLimits}
 

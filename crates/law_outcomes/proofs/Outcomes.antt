@@ -18,7 +18,7 @@ use Rattle.law_safety.proofs.BaseOfDrop.{base_of_drop}
 use Rattle.protocol_plans.specs.SerialOutcome.{first_map, programs_of, map_of, IsSerial}
 use Rattle.law_serial.proofs.SerialReads.{serial_reads}
 use Rattle.law_serial.proofs.DropsAreSerial.{drops_are_serial}
-use Rattle.world_machine.specs.Rows.{rows_of, keys_of, sorted_keys}
+use Rattle.world_rows.specs.Rows.{rows_of, keys_of, sorted_keys}
 use Rattle.law_outcomes.specs.Outcome.{IsCorrect, IsSettled, OutcomesAreCorrect}
 
 -- a row of these keys has the value that the map holds

@@ -12,7 +12,7 @@ use Rattle.protocol.specs.World.Decided.{decided_by, UpTo, WasSent, Committed, I
 use Rattle.protocol.specs.World.Committed.{committed_executions}
 use Rattle.protocol_plans.specs.Scripted.{Scripted, plan_of}
 use Rattle.protocol_plans.specs.SerialOutcome.{first_map, programs_of, IsSerial, IsBaseAt}
-use Rattle.world_machine.specs.Rows.{rows_of}
+use Rattle.world_rows.specs.Rows.{rows_of}
 
 -- no two nodes decide an execution differently; at most one execution of a transaction is committed; the committed
 -- executions by rising version did what the serial run of their programs does, and each value that is reported is that

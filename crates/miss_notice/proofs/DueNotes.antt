@@ -19,10 +19,10 @@ use Rattle.mv_index.proofs.Keyed.{key_up_to, reads_from}
 use Rattle.mv_index.proofs.Same.{due_now, no_note}
 use Rattle.mv_index.proofs.Values.{filter_in}
 use Rattle.mv_index.specs.KeyList.{AreRising}
-use Rattle.mv_record.specs.Records.{StandsFor, WereTold, listed, low_of}
-use Rattle.mv_record.specs.declared.records.Records.{Records}
-use Rattle.mv_record.proofs.Rising.{in_order}
-use Rattle.mv_record.proofs.Told.{at_in}
+use Rattle.mv_index.specs.Records.{StandsFor, WereTold, listed, low_of}
+use Rattle.mv_index.specs.declared.records.Records.{Records}
+use Rattle.mv_index.proofs.Rising.{in_order}
+use Rattle.mv_index.proofs.Told.{at_in}
 use Rattle.miss_notice.specs.Notes.{notes_by, notes_at}
 
 -- ---- one reader

@@ -19,7 +19,7 @@ use Rattle.protocol.proofs.TestLemmas.{and_left, and_right}
 use Rattle.mv_index.specs.declared.reader_list.Reader.{Reader}
 use Rattle.mv_index.specs.ReaderList.{reader_of}
 use Rattle.mv_index.proofs.Counting.{in_any}
-use Rattle.mv_record.specs.Records.{IsTold}
+use Rattle.mv_index.specs.Records.{IsTold}
 use Rattle.miss_notice.specs.declared.Envelope2.{Envelope2}
 use Rattle.miss_notice.specs.declared.Mark.{Mark}
 use Rattle.miss_notice.specs.Envelope2.{sent_by}

@@ -8,7 +8,7 @@ use Rattle.protocol.specs.Replica.Taken.{Handled}
 use Rattle.protocol.specs.Replica.Held.{latest}
 use Rattle.mv_index.specs.declared.reader_list.Reader.{Reader}
 use Rattle.mv_index.specs.ReaderList.{told_at}
-use Rattle.mv_record.specs.Records.{IsTold}
+use Rattle.mv_index.specs.Records.{IsTold}
 use Rattle.miss_notice.specs.declared.Envelope2.{Envelope2}
 use Rattle.miss_notice.specs.declared.Mark.{Mark}
 

@@ -13,15 +13,14 @@ ghost use Rattle.protocol.specs.Replica.Held.{held, latest};
 ghost use Rattle.protocol.specs.Replica.Taken.{Handled, dropped};
 ghost use Rattle.protocol.specs.Replica.Readers.{due, note_for, same_held};
 ghost use Rattle.mv_index.specs.ReaderList.{reader_of};
-ghost use Rattle.mv_record.specs.Records.{StandsFor, WereTold, IsTold, is_broken, readers_of};
+ghost use Rattle.mv_index.specs.Records.{StandsFor, WereTold, IsTold, is_broken, readers_of};
 ghost use Rattle.miss_notice.specs.Notes.{notes_by, notes_at};
 ghost use Rattle.miss_notice.specs.Marks.{mark_in, marked_by, AreLeft};
 ghost use Rattle.miss_notice.specs.Envelope2.{sent_by};
 
 use morty_base::{Key, List, NoMemory, Version, Wid, is_same_wid};
 use msg::Body;
-use mv_index::Reader;
-use mv_record::Records;
+use mv_index::{Reader, Records};
 use protocol::Held;
 use std::alloc::Global;
 

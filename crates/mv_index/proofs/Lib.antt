@@ -1,3 +1,14 @@
+pub mod Clashes
+pub mod Cutting
+pub mod Quiet
+pub mod Reading
+pub mod Rising
+pub mod Settling
+pub mod Taken
+pub mod Told
+pub mod Unseen
+pub mod VotedList
+pub mod VotesSame
 pub mod AbandonTurn
 pub mod BaseSearch
 pub mod Below

@@ -1,3 +1,7 @@
+pub mod Clash
+pub mod RecordMeanings
+pub mod Records
+pub mod Unseen
 pub mod AbandonTable
 pub mod BaseEntries
 pub mod ContentTable

@@ -9,7 +9,7 @@ use crate::sample::{
 use miss_notice::{Envelope2, due_notes};
 use morty_base::{Exec, List, Version, Wid};
 use msg::{Body, Write};
-use mv_record::Records;
+use mv_index::Records;
 use protocol::Held;
 use read_path::on_get;
 use std::alloc::Global;

@@ -1,7 +1,7 @@
 //! Three replicas and two wardens, beside one client.
 
 ghost use Rattle.std.specs.Prelude.{IsTrue};
-ghost use Rattle.replica.specs.Limits.{IsWithinLimits};
+ghost use Rattle.protocol.specs.Replica.Limits.{IsWithinLimits};
 
 use crate::bodies::{Said, body};
 use crate::checks::{MEMORY, is_equal, is_so};

@@ -5,3 +5,4 @@ pub mod Held
 pub mod Votes
 pub mod Readers
 pub mod Says
+pub mod Limits

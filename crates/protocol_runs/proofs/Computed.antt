@@ -17,7 +17,7 @@ use Rattle.protocol.specs.Warden.Base.{base_of}
 use Rattle.protocol.specs.Warden.Truncation.{truncate, take_fenced, finish}
 use Rattle.protocol.specs.Warden.Step.{warden_hears, warden_step}
 use Rattle.protocol.specs.World.Events.{client_moves, warden_moves, replica_moves, pick_moves, enabled, after}
-use Rattle.world_machine.specs.Machine.{effect_in, menu_in}
+use Rattle.world_rows.specs.Machine.{effect_in, menu_in}
 use Rattle.protocol_runs.specs.Commits.{FirstRun, FastPath, HurriedClient, FinalVote}
 use Rattle.protocol_runs.specs.ReExecutions.{MissedWrite, ReExecution, VanishedWrite}
 use Rattle.protocol_runs.specs.Recoveries.{ViewContest, WardenAbandons, ThreeViews}

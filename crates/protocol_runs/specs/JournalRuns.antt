@@ -4,7 +4,7 @@ use Rattle.protocol.specs.Words.{Client, Replica, Quiet, Spent, Event, Picked, R
 use Rattle.protocol.specs.World.State.{Plan}
 use Rattle.protocol_runs.specs.Samples.{inc, only, plan, four}
 use Rattle.net_core.specs.Fair.{IsFairRun}
-use Rattle.world_machine.specs.Machine.{machine_of, world_after}
+use Rattle.world_rows.specs.Machine.{machine_of, world_after}
 
 -- so many replicas, and one client that runs inc
 abbrev pub small : ℕ → Plan

@@ -7,12 +7,12 @@ ghost use Rattle.msg.specs.declared.Body.TheVariants.{Get, Puts};
 ghost use Rattle.protocol.specs.declared.First2.{First2 as FirstValue};
 ghost use Rattle.protocol.specs.Replica.Taken.{Handled, dropped as dropped_of, takes, after_taking};
 ghost use Rattle.protocol.specs.Replica.Says.{answer, refusal, note_of};
-ghost use Rattle.mv_record.specs.Records.{StandsFor, WereTold, is_broken};
+ghost use Rattle.mv_index.specs.Records.{StandsFor, WereTold, is_broken};
 ghost use Rattle.read_path.specs.GetOut.{body_of, is_too_old};
 
 use morty_base::{Exec, Key, NoMemory, Version, is_before};
 use msg::{Body, Write};
-use mv_record::Records;
+use mv_index::Records;
 use protocol::Held;
 use std::alloc::Global;
 

@@ -22,7 +22,7 @@ use Rattle.view_cell.proofs.DecisionsStand.{decisions_stand}
 use Rattle.mv_index.specs.HeldByExec.{committed_content}
 use Rattle.mv_index.proofs.Growth.{option_or_none, option_or_assoc}
 use Rattle.mv_index.proofs.CommitTurn.{uncommitted}
-use Rattle.mv_record.proofs.VotesSame.{after_body}
+use Rattle.mv_index.proofs.VotesSame.{after_body}
 use Rattle.replica.specs.Ballots.{blank, or_blank, ballot_at, IsBallotOf, StandsFor}
 use Rattle.replica.specs.Known.{known_after}
 use Rattle.replica.specs.declared.ballots.Ballot.{Ballot}

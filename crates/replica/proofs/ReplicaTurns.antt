@@ -19,10 +19,10 @@ use Rattle.view_cell.proofs.CellLemmas.{open_is}
 use Rattle.view_cell.proofs.VotesStand.{votes_stand}
 use Rattle.view_cell.proofs.DecisionsStand.{decisions_stand}
 use Rattle.mv_index.proofs.Growth.{later_none}
-use Rattle.mv_record.specs.Records.{StandsFor as RecordsStandFor, WereTold}
-use Rattle.mv_record.specs.Unseen.{is_unseen}
-use Rattle.mv_record.specs.declared.records.Records.{Records}
-use Rattle.mv_record.proofs.VotesSame.{after_body}
+use Rattle.mv_index.specs.Records.{StandsFor as RecordsStandFor, WereTold}
+use Rattle.mv_index.specs.Unseen.{is_unseen}
+use Rattle.mv_index.specs.declared.records.Records.{Records}
+use Rattle.mv_index.proofs.VotesSame.{after_body}
 use Rattle.replica.specs.Ballots.{ballot_at, StandsFor as BallotsStandFor}
 use Rattle.replica.specs.Replica.{Keeps}
 use Rattle.replica.specs.declared.ballots.Ballots.{Ballots}

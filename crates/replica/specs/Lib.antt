@@ -1,4 +1,3 @@
 pub mod Ballots
 pub mod Known
-pub mod Limits
 pub mod Replica

@@ -3,8 +3,8 @@ use Rattle.std.specs.Prelude.{◌≡◌, ℕ, Bool, false, List}
 use Rattle.protocol.specs.Words.{Version}
 use Rattle.protocol.specs.Replica.Taken.{Handled, dropped, fence}
 use Rattle.protocol.specs.declared.First2.{First2}
-use Rattle.mv_record.specs.Records.{StandsFor as RecordsStandFor, WereTold}
-use Rattle.mv_record.specs.declared.records.Records.{Records}
+use Rattle.mv_index.specs.Records.{StandsFor as RecordsStandFor, WereTold}
+use Rattle.mv_index.specs.declared.records.Records.{Records}
 use Rattle.replica.specs.Ballots.{StandsFor as BallotsStandFor}
 use Rattle.replica.specs.declared.ballots.Ballots.{Ballots}
 use Rattle.replica.specs.declared.replica.Replica.{Replica}

@@ -8,12 +8,12 @@ ghost use Rattle.protocol.specs.declared.First2.{First2 as FirstValue};
 ghost use Rattle.protocol.specs.Replica.Taken.{Handled, dropped, lacks_content};
 ghost use Rattle.protocol.specs.Replica.Acceptor.{decided};
 ghost use Rattle.protocol.specs.Replica.Votes.{casts, may_vote, verdict};
-ghost use Rattle.mv_record.specs.Records.{StandsFor, WereTold};
-ghost use Rattle.replica.specs.Limits.{HasFewWrites};
+ghost use Rattle.mv_index.specs.Records.{StandsFor, WereTold};
+ghost use Rattle.protocol.specs.Replica.Limits.{HasFewWrites};
 
 use morty_base::{Exec, NoMemory};
 use msg::{Choice, Content, Vote};
-use mv_record::Records;
+use mv_index::Records;
 use std::alloc::Global;
 
 /// The vote that is cast on an execution; the records keep the contents with a Commit vote.

@@ -12,7 +12,7 @@ ghost use Rattle.protocol.specs.Replica.Taken.{Handled, dropped, later, takes, a
 ghost use Rattle.protocol.specs.Replica.Acceptor.{decided};
 ghost use Rattle.protocol.specs.Replica.Readers.{due};
 ghost use Rattle.protocol.specs.Replica.Says.{answer, refusal, says};
-ghost use Rattle.replica.specs.Limits.{IsWithinLimits, HasFewWrites};
+ghost use Rattle.protocol.specs.Replica.Limits.{IsWithinLimits, HasFewWrites};
 
 use crate::ballots::Ballots;
 use crate::recording::{record_decision, record_vote};
@@ -21,7 +21,7 @@ use crate::taken::takes;
 use miss_notice::due_notes;
 use morty_base::{Exec, Key, List, NoMemory, NodeId, Version, is_before};
 use msg::{BaseEntry, Body, Choice, Content, Envelope, Write};
-use mv_record::Records;
+use mv_index::Records;
 use protocol::First2;
 use read_path::{on_get, on_puts};
 use std::alloc::Global;

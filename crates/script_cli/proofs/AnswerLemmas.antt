@@ -8,7 +8,7 @@ use Rattle.morty_io.specs.Bytes.{Takes}
 use Rattle.net_core.specs.Ruled.{LinkState}
 use Rattle.script.specs.declared.setup.Setup.{Setup}
 use Rattle.script.specs.Sayable.{IsSetup}
-use Rattle.script_runs.specs.Runs.{IsRunOf}
+use Rattle.script_cli.specs.Runs.{IsRunOf}
 use Rattle.script_cli.specs.declared.words.Command.{Command}
 use Rattle.script_cli.specs.Words.{command_of, reads, runs, is_shared}
 use Rattle.script_cli.specs.Lines.{bad_command_line, read_failed, too_long}

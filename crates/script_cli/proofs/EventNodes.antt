@@ -26,7 +26,7 @@ use Rattle.script.specs.declared.setup.Setup.{Setup}
 use Rattle.script.specs.Sayable.{IsSetup}
 use Rattle.script_plans.specs.Plans.{scripted}
 use Rattle.script_plans.proofs.SetupsAreScripts.{setups_are_scripts}
-use Rattle.script_runs.specs.Runs.{rules_for}
+use Rattle.script_cli.specs.Runs.{rules_for}
 
 -- one that is among nodes has a slot
 among_somewhere : (ns : List NodeId) (n : NodeId) → is_among ns n ≡ true → (i : ℕ) × (slice_get ns i ≡ Some n)

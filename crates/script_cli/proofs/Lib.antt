@@ -1,3 +1,6 @@
+pub mod Slots
+pub mod Ended
+pub mod Sent
 pub mod WordsLemmas
 pub mod DifferLemmas
 pub mod CommandLemmas

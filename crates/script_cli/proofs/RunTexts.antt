@@ -5,11 +5,11 @@ use Rattle.report.specs.Text.{report_of}
 use Rattle.msg.specs.declared.Event.{Event}
 use Rattle.script.specs.declared.setup.Setup.{Setup}
 use Rattle.script_plans.specs.Plans.{scripted}
-use Rattle.world_machine.specs.Rows.{rows_of}
+use Rattle.world_rows.specs.Rows.{rows_of}
 use Rattle.world.specs.declared.origin.Origin.{Origin}
 use Rattle.world.specs.Origin.{script, world_at}
 use Rattle.serial_ref.specs.declared.item.SerialItem.{SerialItem}
-use Rattle.script_runs.specs.Runs.{world_for}
+use Rattle.script_cli.specs.Runs.{world_for}
 use Rattle.script_cli.specs.declared.words.Command.{Command}
 use Rattle.script_cli.specs.declared.words.Command.TheVariants.{Run, Serial, Check, Gen}
 use Rattle.script_cli.specs.declared.words.Seeded.{Seeded}

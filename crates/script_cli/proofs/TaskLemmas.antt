@@ -4,7 +4,7 @@ use Rattle.std.specs.Prelude.{IfOk}
 use Rattle.morty_base.specs.declared.list.NoMemory.{NoMemory}
 use Rattle.net_core.specs.Ruled.{LinkState}
 use Rattle.hub.proofs.Results.{if_ok}
-use Rattle.script_runs.specs.declared.run.Ready.{Ready}
+use Rattle.script_cli.specs.declared.run.Ready.{Ready}
 use Rattle.script_cli.specs.declared.words.Command.{Command}
 use Rattle.script_cli.specs.declared.made.Task.{Task}
 use Rattle.script_cli.specs.declared.made.Task.TheVariants.{Write, Run}

@@ -11,7 +11,7 @@ use Rattle.script.specs.Texts.{IsFaultOf}
 use Rattle.script_plans.specs.Plans.{scripted, link_kind}
 use Rattle.law_outcomes.specs.Outcome.{IsCorrectThroughout}
 use Rattle.links.specs.Choosing.{first_for}
-use Rattle.script_runs.specs.Runs.{rules_for, IsRunOf, IsLinkMissing}
+use Rattle.script_cli.specs.Runs.{rules_for, IsRunOf, IsLinkMissing}
 use Rattle.script_cli.specs.declared.words.Command.{Command}
 use Rattle.script_cli.specs.declared.words.Command.TheVariants.{Gen, Big}
 use Rattle.script_cli.specs.Words.{command_of, reads, runs, is_shared}

@@ -19,10 +19,10 @@ use Rattle.serial_ref.specs.declared.item.SerialItem.{SerialItem}
 use Rattle.serial_ref.specs.SerialItem.{AreNamed, IsInOrder}
 use Rattle.serial_ref.specs.FirstTries.{IsFirstTries}
 use Rattle.serial_ref.specs.Serial.{items_of, firsts_of}
-use Rattle.world_machine.specs.Rows.{rows_of}
+use Rattle.world_rows.specs.Rows.{rows_of}
 use Rattle.run_trace.specs.Trace.{trace_bytes}
 use Rattle.lab.specs.Generated.{generated}
-use Rattle.script_runs.specs.Runs.{world_for, IsRunOf, IsLinkMissing}
+use Rattle.script_cli.specs.Runs.{world_for, IsRunOf, IsLinkMissing}
 use Rattle.script_cli.specs.declared.words.Command.{Command}
 use Rattle.script_cli.specs.declared.words.Command.TheVariants.{Serial, Trace, Gen, Big}
 use Rattle.script_cli.specs.declared.output.Output.{Output}

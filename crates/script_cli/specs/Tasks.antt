@@ -3,8 +3,8 @@ use Rattle.std.specs.Prelude.{◌≡◌, ◌≤◌, true, List}
 use Rattle.net_core.specs.Ruled.{LinkState}
 use Rattle.script.specs.declared.setup.Setup.{Setup}
 use Rattle.script.specs.Sayable.{IsSetup}
-use Rattle.script_runs.specs.declared.run.Ready.{Ready}
-use Rattle.script_runs.specs.Runs.{IsReady}
+use Rattle.script_cli.specs.declared.run.Ready.{Ready}
+use Rattle.script_cli.specs.Runs.{IsReady}
 use Rattle.script_cli.specs.declared.words.Command.{Command}
 use Rattle.script_cli.specs.declared.made.Task.{Task}
 use Rattle.script_cli.specs.declared.made.Task.TheVariants.{Write, Run}

@@ -8,7 +8,7 @@ ghost use Rattle.script.specs.Canonical.{canonical_script};
 ghost use Rattle.world.specs.declared.origin.Origin.{Origin as OriginValue};
 ghost use Rattle.world.specs.World.{IsUsable, Stands};
 ghost use Rattle.msg.specs.declared.Event.{Event as EventValue};
-ghost use Rattle.script_runs.specs.Runs.{world_for};
+ghost use Rattle.script_cli.specs.Runs.{world_for};
 ghost use Rattle.script_cli.specs.Due.{rows_for};
 ghost use Rattle.script.specs.Sayable.{IsSetup};
 ghost use Rattle.serial_ref.specs.SerialItem.{AreNamed, DifferInVersion, IsRising};

@@ -8,11 +8,11 @@ ghost use Rattle.protocol.specs.declared.First2.{First2 as FirstValue};
 ghost use Rattle.protocol.specs.Lists.{IsRisingBy};
 ghost use Rattle.protocol.specs.Replica.Taken.{Handled, dropped};
 ghost use Rattle.protocol.specs.Replica.Says.{answer};
-ghost use Rattle.mv_record.specs.Records.{StandsFor, WereTold, is_broken};
+ghost use Rattle.mv_index.specs.Records.{StandsFor, WereTold, is_broken};
 
 use morty_base::{List, NoMemory, Version};
 use msg::{BaseEntry, Body};
-use mv_record::Records;
+use mv_index::Records;
 use std::alloc::Global;
 
 /// The answer to a Fence.

@@ -6,9 +6,9 @@ use Rattle.protocol.specs.Words.{Exec, Version, before, Vote, Commit, Tentative,
 use Rattle.protocol.specs.Replica.Taken.{Handled, fence, base}
 use Rattle.protocol.specs.Replica.Acceptor.{commits}
 use Rattle.protocol.specs.Replica.Votes.{casts, verdict, clashes_with_commit, clashes_with_vote, conflicts_with_base}
-use Rattle.mv_record.specs.Clash.{at_version, clash_of}
-use Rattle.mv_record.specs.declared.clash.Clash.{Clash}
-use Rattle.mv_record.specs.declared.clash.Clash.TheVariants.{Committed, Voted, Clear}
+use Rattle.mv_index.specs.Clash.{at_version, clash_of}
+use Rattle.mv_index.specs.declared.clash.Clash.{Clash}
+use Rattle.mv_index.specs.declared.clash.Clash.TheVariants.{Committed, Voted, Clear}
 
 abbrev pub vote_of : Clash → Vote
 vote_of Committed = Final

@@ -6,11 +6,11 @@ ghost use Rattle.morty_base.specs.declared.names.Exec.{Exec as ExecValue};
 ghost use Rattle.protocol.specs.declared.First2.{First2 as FirstValue};
 ghost use Rattle.protocol.specs.Replica.Taken.{Handled, fence as fence_of};
 ghost use Rattle.protocol.specs.Replica.Votes.{casts, verdict as verdict_of};
-ghost use Rattle.mv_record.specs.Records.{StandsFor};
+ghost use Rattle.mv_index.specs.Records.{StandsFor};
 
 use morty_base::{Version, is_before};
 use msg::{Content, Vote};
-use mv_record::{Clash, Records};
+use mv_index::{Clash, Records};
 
 /// The first case that holds: at the fence, a conflict that is final, a conflict for now, none.
 #[tactic(auto, unfolding(protocol::specs::Replica::Votes::verdict))]

@@ -7,13 +7,13 @@ use Rattle.protocol.specs.World.State.{World, exists, is_live, mail_limit}
 use Rattle.protocol.specs.World.Events.{client_input, enabled}
 use Rattle.continuation.specs.declared.segment.Job.{Job}
 use Rattle.continuation.specs.Job.{Finished}
-use Rattle.nodes.specs.Clients.{Loads}
-use Rattle.nodes.specs.Nodes.{has_node, job_of}
+use Rattle.world.specs.Clients.{Loads}
+use Rattle.world.specs.Nodes.{has_node, job_of}
 use Rattle.net_core.specs.Machine.{History, Effect, Moves, Refused}
 use Rattle.net_core.specs.Replay.{IsDue, IsTaken}
-use Rattle.world_machine.specs.Machine.{effect_in, machine_of}
-use Rattle.world_laws.proofs.Enabling.{enabled_when, ran_when}
-use Rattle.world_laws.proofs.NodeJobs.{job_pending, when_is}
+use Rattle.world_rows.specs.Machine.{effect_in, machine_of}
+use Rattle.world_rows.proofs.Enabling.{enabled_when, ran_when}
+use Rattle.world.specs.NodeJobs.{job_pending, when_is}
 use Rattle.world.specs.declared.origin.Origin.{Origin}
 use Rattle.world.specs.declared.parts.Parts.{Parts}
 use Rattle.world.specs.declared.world.World.{World as Kept}

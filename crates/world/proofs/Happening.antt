@@ -10,8 +10,9 @@ use Rattle.protocol.specs.World.State.{Plan, World, exists, is_live}
 use Rattle.protocol.specs.World.Events.{Move, client_input, enabled, move_of, pick_moves}
 use Rattle.coordinator.specs.Coordinator.{last_attempt}
 use Rattle.coordinator.specs.declared.memory.Attempt.{Attempt}
-use Rattle.nodes.specs.Nodes.{has_node, can_pick}
-use Rattle.world_laws.proofs.Enabling.{live_enabled, move_enabled, some_of}
+use Rattle.world_rows.specs.Machine.{can_pick}
+use Rattle.world.specs.Nodes.{has_node}
+use Rattle.world_rows.proofs.Enabling.{live_enabled, move_enabled, some_of}
 use Rattle.world.specs.World.{IsByItself, CanHappen}
 use Rattle.world.specs.declared.parts.Parts.{Parts}
 use Rattle.world.proofs.NodeSlots.{node_is}

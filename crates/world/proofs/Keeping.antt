@@ -14,7 +14,7 @@ use Rattle.protocol.specs.World.Events.{at, Move, client_moves, warden_moves, re
 use Rattle.protocol.proofs.TestLemmas.{eqb_is}
 use Rattle.world.specs.World.{with_sent, counted, IsByItself}
 use Rattle.world.proofs.AttemptsKept.{attempts_kept}
-use Rattle.world_laws.proofs.Enabling.{IsDelivered, is_delivered, move_enabled}
+use Rattle.world_rows.proofs.Enabling.{IsDelivered, is_delivered, move_enabled}
 
 -- all but the nodes stays, and each client has the attempts that it had
 pub record KeepsRest (w : World) (v : Move) : Type 0 where

@@ -1,3 +1,11 @@
+pub mod Results
+pub mod Placed
+pub mod WardenTurns
+pub mod TurnedWardens
+pub mod ClientJobs
+pub mod OneJob
+pub mod NodesLemmas
+pub mod PickLemmas
 mod AttemptsKept
 mod Keeping
 mod Begun

@@ -3,7 +3,7 @@ use Rattle.std.proofs.Common.{◌≡◌, ℕ, ◌+◌, ◌<◌, List, [], ◌∷
 use Rattle.std.proofs.lemmas.List.{take_more, map_push}
 use Rattle.flat_code.specs.Operation.{Flat}
 use Rattle.flat_code.specs.Does.{IsCodeOf}
-use Rattle.execution.specs.Execution.{Loaded}
+use Rattle.coordinator.specs.Execution.{Loaded}
 use Rattle.coordinator.specs.Memory.{codes_of}
 use Rattle.script.specs.declared.setup.NamedProg.{NamedProg}
 

@@ -4,9 +4,9 @@ use Rattle.std.specs.Prelude.{slice_get}
 use Rattle.protocol.specs.Words.{NodeId}
 use Rattle.protocol.specs.World.State.{Plan, World, exists}
 use Rattle.protocol.specs.World.Committed.{nodes as nodes_of}
-use Rattle.nodes.specs.Clients.{Loads}
-use Rattle.nodes.specs.Nodes as nodes
-use Rattle.nodes.proofs.NodesLemmas.{has_is}
+use Rattle.world.specs.Clients.{Loads}
+use Rattle.world.specs.Nodes as nodes
+use Rattle.world.specs.NodeJobs.{has_is}
 use Rattle.menus.specs.Slots.{has_node, nodes_of as slots_of}
 use Rattle.menus.proofs.NodesHaveSlots.{has_node_is}
 use Rattle.net_core.specs.Machine.{History}

@@ -2,9 +2,9 @@
 use Rattle.std.proofs.Common.{◌≡◌, ℕ, cond, Option, None, refl, ap, sym, ◌∙◌}
 use Rattle.protocol.specs.Words.{NodeId, Client, Replica, Warden}
 use Rattle.continuation.specs.declared.segment.Job.{Job}
-use Rattle.nodes.specs.Nodes.{has_node, job_of}
-use Rattle.nodes.proofs.NodesLemmas.{has_is}
-use Rattle.nodes.proofs.OneJob.{LoadsAlike, one_job_of}
+use Rattle.world.specs.Nodes.{has_node, job_of}
+use Rattle.world.specs.NodeJobs.{has_is}
+use Rattle.world.proofs.OneJob.{LoadsAlike, one_job_of}
 use Rattle.net_core.specs.Machine.{History}
 use Rattle.world.specs.declared.origin.Origin.{Origin}
 use Rattle.world.specs.Origin.{IsOrigin, loads, world_at}

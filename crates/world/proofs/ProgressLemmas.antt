@@ -10,9 +10,9 @@ use Rattle.protocol.specs.Words.{Client}
 use Rattle.protocol.specs.Client.State.{Txn}
 use Rattle.protocol.specs.World.State.{World, in_range, rules, txns_of}
 use Rattle.protocol_plans.specs.Scripted.{Scripted, plan_of, txn_of}
-use Rattle.nodes.specs.Clients.{Loads}
-use Rattle.nodes.specs.Nodes.{has_node}
-use Rattle.nodes.proofs.NodesLemmas.{has_is}
+use Rattle.world.specs.Clients.{Loads}
+use Rattle.world.specs.Nodes.{has_node}
+use Rattle.world.specs.NodeJobs.{has_is}
 use Rattle.world_rows.specs.declared.left.Progress.{Progress}
 use Rattle.world_rows.specs.Report.{AreProgress, progress_of}
 use Rattle.world.specs.declared.parts.Parts.{Parts}

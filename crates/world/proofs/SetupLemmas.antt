@@ -5,10 +5,10 @@ use Rattle.std.specs.List.{AllByRecursion}
 use Rattle.std.specs.Option.{option_map}
 use Rattle.std.proofs.lemmas.List.{length-map}
 use Rattle.std.proofs.lemmas.Option.{slice_get-map}
-use Rattle.execution.specs.Execution.{Loaded, walk_of}
+use Rattle.coordinator.specs.Execution.{Loaded, walk_of}
 use Rattle.coordinator.specs.Memory.{HavePrograms, txn_in}
 use Rattle.coordinator.specs.declared.memory.Txn2.{Txn2}
-use Rattle.nodes.specs.Nodes.{IsSetupOf}
+use Rattle.world.specs.Nodes.{IsSetupOf}
 use Rattle.protocol_plans.specs.Scripted.{program_walk, txn_of as txn_said}
 use Rattle.script.specs.declared.setup.NamedProg.{NamedProg}
 use Rattle.script.specs.declared.setup.Txn.{Txn}

@@ -13,8 +13,8 @@ use Rattle.law_frames.proofs.ViewsAreLeft.{views_are_left}
 use Rattle.script_plans.proofs.SetupsAreScripts.{setups_are_scripts}
 use Rattle.world_rows.proofs.CommitsAreTold.{commits_are_told}
 use Rattle.net_core.specs.Machine.{History}
-use Rattle.world_machine.specs.Machine.{world_after}
-use Rattle.world_machine.proofs.HistoriesReplay.{histories_replay}
+use Rattle.world_rows.specs.Machine.{world_after}
+use Rattle.world_rows.proofs.HistoriesReplay.{histories_replay}
 use Rattle.world.specs.declared.origin.Origin.{Origin}
 use Rattle.world.specs.Origin.{IsOrigin, script, plan, world_at}
 use Rattle.world.specs.World.{IsSound, IsWhole}

@@ -5,11 +5,11 @@ use Rattle.std.proofs.lemmas.Bool.Decides.{nat_tests}
 use Rattle.protocol.specs.Words.{Envelope, Event}
 use Rattle.protocol.specs.World.State.{Plan, World, mail_limit}
 use Rattle.protocol.specs.World.Events.{Move, enabled, after}
-use Rattle.nodes.specs.Clients.{Loads}
-use Rattle.nodes.specs.Nodes.{HaveViewsLeft}
+use Rattle.world.specs.Clients.{Loads}
+use Rattle.world.specs.Nodes.{HaveViewsLeft}
 use Rattle.net_core.specs.Machine.{History, Effect, Moves, Refused, Not_enabled}
-use Rattle.world_machine.specs.Machine.{effect_of, effect_in}
-use Rattle.world_laws.proofs.Lawful.{stays}
+use Rattle.world_rows.specs.Machine.{effect_of, effect_in}
+use Rattle.world_rows.proofs.Lawful.{stays}
 use Rattle.world.specs.declared.origin.Origin.{Origin}
 use Rattle.world.specs.declared.parts.Parts.{Parts}
 use Rattle.world.specs.declared.world.World.{World as Kept}

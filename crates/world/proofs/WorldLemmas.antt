@@ -6,15 +6,15 @@ use Rattle.protocol.specs.Client.State.{Attempt, ClientState}
 use Rattle.protocol.specs.World.State.{Plan, World}
 use Rattle.protocol.specs.World.Events.{Move, mark, marked}
 use Rattle.protocol.specs.World.Committed.{nodes as nodes_of}
-use Rattle.nodes.specs.Clients.{Loads}
-use Rattle.nodes.specs.Nodes.{AreNodes}
-use Rattle.nodes.specs.declared.nodes.Nodes.{Nodes}
+use Rattle.world.specs.Clients.{Loads}
+use Rattle.world.specs.Nodes.{AreNodes}
+use Rattle.world.specs.declared.nodes.Nodes.{Nodes}
 use Rattle.menus.specs.Mailboxes.{AreMailboxes}
 use Rattle.menus.specs.declared.mailboxes.Mailboxes.{Mailboxes}
 use Rattle.world_rows.specs.Notes.{AreNotes, IsBegun}
 use Rattle.world_rows.specs.declared.notes.Notes.{Notes}
 use Rattle.world_rows.proofs.NotesLemmas.{same_notes}
-use Rattle.world_machine.specs.Machine.{events_in}
+use Rattle.world_rows.specs.Machine.{events_in}
 use Rattle.world.specs.World.{IsWorld, with_sent, counted}
 use Rattle.world.specs.declared.parts.Parts.{Parts}
 use Rattle.world.proofs.Keeping.{KeepsRest}

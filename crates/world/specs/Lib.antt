@@ -1,3 +1,8 @@
+pub mod Clients
+pub mod Replicas
+pub mod Wardens
+pub mod Nodes
+pub mod NodeJobs
 pub mod Setup
 pub mod Origin
 pub mod World

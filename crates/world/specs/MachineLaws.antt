@@ -7,13 +7,13 @@ use Rattle.protocol.specs.World.State.{World, exists}
 use Rattle.protocol.specs.World.Committed.{nodes as nodes_of}
 use Rattle.continuation.specs.declared.segment.Job.{Job}
 use Rattle.continuation.specs.Job.{FitsCodes, Finished}
-use Rattle.nodes.specs.Nodes.{has_node, job_of}
-use Rattle.nodes.proofs.NodesLemmas.{has_is}
+use Rattle.world.specs.Nodes.{has_node, job_of}
+use Rattle.world.specs.NodeJobs.{has_is}
 use Rattle.menus.specs.Slots.{count_of}
 use Rattle.menus.proofs.SlotsLemmas.{nodes_length}
 use Rattle.net_core.specs.Machine.{History}
-use Rattle.world_machine.specs.Machine.{is_pending}
-use Rattle.world_laws.proofs.NodeJobs.{job_pending, job_fitting, when_is, none_some}
+use Rattle.world_rows.specs.Machine.{is_pending}
+use Rattle.world.specs.NodeJobs.{job_pending, job_fitting, when_is, none_some}
 use Rattle.world.specs.declared.origin.Origin.{Origin}
 use Rattle.world.specs.Origin.{plan, loads, world_at}
 use Rattle.world.specs.declared.world.World.{World as Kept}

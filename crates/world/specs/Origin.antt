@@ -2,9 +2,9 @@
 use Rattle.std.specs.Prelude.{◌≡◌, ℕ, List, map}
 use Rattle.txn_lang.specs.Program.{Program}
 use Rattle.flat_code.specs.Operation.{Flat}
-use Rattle.execution.specs.Execution.{Loaded}
+use Rattle.coordinator.specs.Execution.{Loaded}
 use Rattle.coordinator.specs.Memory.{codes_of}
-use Rattle.nodes.specs.Clients.{Loads}
+use Rattle.world.specs.Clients.{Loads}
 use Rattle.protocol.specs.World.State.{Plan, World}
 use Rattle.protocol_plans.specs.Scripted.{Scripted, plan_of}
 use Rattle.script.specs.declared.setup.Txn.{Txn}
@@ -12,7 +12,7 @@ use Rattle.script.specs.declared.setup.Setup.{Setup}
 use Rattle.script.specs.Sayable.{IsSetup}
 use Rattle.script_plans.specs.Plans.{scripted}
 use Rattle.net_core.specs.Machine.{History}
-use Rattle.world_machine.specs.Machine.{world_after}
+use Rattle.world_rows.specs.Machine.{world_after}
 use Rattle.world.specs.declared.origin.Origin.{Origin}
 
 -- the programs of a setup

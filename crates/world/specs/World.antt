@@ -10,16 +10,16 @@ use Rattle.protocol.specs.World.State.{Plan, World, exists, mail_limit}
 use Rattle.protocol.specs.World.Events.{Move, enabled}
 use Rattle.protocol.specs.World.Committed.{nodes as nodes_of}
 use Rattle.coordinator.specs.Memory.{codes_of}
-use Rattle.nodes.specs.Clients.{Loads}
+use Rattle.world.specs.Clients.{Loads}
 use Rattle.continuation.specs.declared.segment.Job.{Job}
-use Rattle.nodes.specs.Nodes.{AreNodes, HaveViewsLeft, has_node, job_of}
+use Rattle.world.specs.Nodes.{AreNodes, HaveViewsLeft, has_node, job_of}
 use Rattle.menus.specs.Slots.{count_of}
 use Rattle.menus.specs.Laws.{counts_in}
 use Rattle.menus.specs.Mailboxes.{AreMailboxes}
 use Rattle.world_rows.specs.Laws.{CommitsAreToldOf}
 use Rattle.world_rows.specs.Notes.{AreNotes}
 use Rattle.net_core.specs.Machine.{History}
-use Rattle.world_machine.specs.Machine.{events_in}
+use Rattle.world_rows.specs.Machine.{events_in}
 use Rattle.world.specs.declared.origin.Origin.{Origin}
 use Rattle.world.specs.declared.parts.Parts.{Parts}
 use Rattle.world.specs.declared.world.World.{World as Machine}

@@ -2,12 +2,12 @@
 
 ghost use Rattle.std.specs.Prelude.{◌≡◌, ◌≤◌, true, length, IfOk};
 ghost use Rattle.protocol.specs.Words.{Client};
-ghost use Rattle.nodes.specs.Nodes.{has_node};
+ghost use Rattle.world.specs.Nodes.{has_node};
 ghost use Rattle.protocol.specs.World.State.{World, first_world};
 ghost use Rattle.protocol_plans.specs.Scripted.{Scripted, plan_of};
 ghost use Rattle.script.specs.Sayable.{IsSetup};
-ghost use Rattle.nodes.specs.Clients.{Loads};
-ghost use Rattle.world_machine.specs.Rows.{rows_of};
+ghost use Rattle.world.specs.Clients.{Loads};
+ghost use Rattle.world_rows.specs.Rows.{rows_of};
 ghost use Rattle.world_rows.specs.Laws.{CommitsAreToldOf};
 ghost use Rattle.world_rows.specs.Report.{AreProgress};
 ghost use Rattle.world.specs.declared.origin.Origin.{Origin as OriginValue};
@@ -15,12 +15,12 @@ ghost use Rattle.world.specs.Origin.{IsOrigin, loads};
 ghost use Rattle.world.specs.Setup.{slots_in};
 ghost use Rattle.world.specs.World.{IsWorld};
 
+use crate::nodes::Nodes;
 use crate::parts::Parts;
 use crate::setup::{counts, firsts, rules, slots, txns};
 use flat_code::Code;
 use menus::Mailboxes;
 use morty_base::{List, NoMemory};
-use nodes::Nodes;
 use report::Rows;
 use script::Setup;
 use std::alloc::Global;

@@ -6,8 +6,8 @@ ghost use Rattle.protocol.specs.Words.{Client, Envelope as EnvelopeValue, Picked
 ghost use Rattle.protocol.specs.Lists.{IsIn};
 ghost use Rattle.protocol.specs.World.State.{World};
 ghost use Rattle.protocol.specs.World.Events.{enabled, after};
-ghost use Rattle.nodes.specs.Nodes.{job_of};
-ghost use Rattle.nodes.specs.Clients.{Loads};
+ghost use Rattle.world.specs.Nodes.{job_of};
+ghost use Rattle.world.specs.Clients.{Loads};
 ghost use Rattle.world.specs.World.{IsWorld, IsTaken, IsSound, IsByItself, CanHappen, HasRoom, with_sent, counted};
 
 use crate::parts::Parts;

@@ -3,22 +3,22 @@
 use crate::origin::Origin;
 use crate::world::World;
 use continuation::{Done, Job, run_job};
+use coordinator::is_same_job;
 use flat_code::Code;
 use morty_base::{List, NoMemory, NodeId, Steps};
 use msg::{Event, Pick};
 use net_core::{Machine, Menu, RanStep, StepOut};
-use nodes::is_same_job;
 use std::alloc::Global;
 
 impl Machine for World {
     ghost use Rattle.std.specs.Prelude.{◌≡◌, Some, slice_get};
     ghost use Rattle.continuation.specs.Job.{FitsCodes};
     ghost use Rattle.menus.specs.Slots.{count_of};
-    ghost use Rattle.world_machine.specs.Machine.{machine_of};
+    ghost use Rattle.world_rows.specs.Machine.{machine_of};
     ghost use Rattle.world.specs.Origin.{plan};
     ghost use Rattle.world.specs.World.{IsUsable, Stands};
     ghost use Rattle.world.specs.Jobs.{pending_of, IsDoneOf};
-    ghost use Rattle.world_laws.proofs.Lawful.{machines_are_lawful};
+    ghost use Rattle.world_rows.proofs.Lawful.{machines_are_lawful};
     ghost use Rattle.world.specs.MachineLaws.{in_use, counted, pending_told, jobs_fit, one_job};
 
     type Job = Job;

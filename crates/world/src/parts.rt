@@ -7,20 +7,20 @@ ghost use Rattle.protocol.specs.World.State.{World, exists, is_live, mail_limit}
 ghost use Rattle.protocol.specs.World.Events.{enabled, pick_moves};
 ghost use Rattle.protocol.specs.World.Committed.{nodes as nodes_of};
 ghost use Rattle.continuation.specs.Job.{FitsCodes};
-ghost use Rattle.nodes.specs.Nodes.{HaveViewsLeft, has_node, job_of};
+ghost use Rattle.world.specs.Nodes.{HaveViewsLeft, has_node, job_of};
 ghost use Rattle.menus.specs.Slots.{count_of};
 ghost use Rattle.net_core.specs.Replay.{shown};
-ghost use Rattle.world_machine.specs.Machine.{menu_in, is_pending, stuck_for};
-ghost use Rattle.nodes.specs.Clients.{Loads};
+ghost use Rattle.world_rows.specs.Machine.{menu_in, is_pending, stuck_for};
+ghost use Rattle.world.specs.Clients.{Loads};
 ghost use Rattle.world.specs.World.{IsWorld, pending_at};
 
+use crate::nodes::Nodes;
 use continuation::Job;
 use flat_code::Code;
 use menus::Mailboxes;
 use morty_base::{Exec, List, NoMemory, NodeId};
 use msg::{Event, Pick};
 use net_core::Menu;
-use nodes::Nodes;
 use protocol::First2;
 use std::alloc::Global;
 use world_rows::Notes;

@@ -13,8 +13,8 @@ use Rattle.protocol.specs.World.State.{Plan, World}
 use Rattle.protocol.specs.World.Committed.{CommittedExec, is_committed, attempt_at, committed_in, put_committed, sorted_committed, committed_executions}
 use Rattle.protocol.proofs.ListsLemmas.{IsIn-flat_map, flat_map_in}
 use Rattle.protocol_plans.specs.Scripted.{Scripted, plan_of}
-use Rattle.world_machine.specs.Machine.{events_in}
-use Rattle.world_machine.specs.Rows.{rows_of}
+use Rattle.world_rows.specs.Machine.{events_in}
+use Rattle.world_rows.specs.Rows.{rows_of}
 use Rattle.world_rows.specs.Report.{rows_with}
 use Rattle.world_rows.specs.Orders.{version_cmp, exec_cmp}
 use Rattle.world_rows.specs.Notes.{content_in, last_prepare, try_of, AreNotes}

@@ -10,7 +10,7 @@ use Rattle.protocol.specs.Lists.{upto}
 use Rattle.protocol.specs.World.State.{World, rules}
 use Rattle.protocol.specs.World.Committed.{CommittedExec}
 use Rattle.protocol_plans.specs.Scripted.{Scripted, plan_of}
-use Rattle.world_machine.specs.Rows.{left_row}
+use Rattle.world_rows.specs.Rows.{left_row}
 use Rattle.world_rows.specs.Left.{txn_cmp, left_in, left_at, AreDone}
 use Rattle.world_rows.specs.Report.{progress_of, AreProgress}
 use Rattle.world_rows.specs.declared.left.Progress.{Progress}

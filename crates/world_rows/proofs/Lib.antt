@@ -1,3 +1,7 @@
+pub mod HistoriesReplay
+pub mod SameWorlds
+pub mod Enabling
+pub mod Lawful
 pub mod Appended
 pub mod OrdersLemmas
 pub mod EntriesLemmas

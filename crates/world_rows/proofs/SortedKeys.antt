@@ -12,7 +12,7 @@ use Rattle.protocol.specs.Lists.{IsIn}
 use Rattle.protocol.proofs.ListsLemmas.{IsIn-map, map_in}
 use Rattle.report.specs.declared.rows.ValueRow.{ValueRow}
 use Rattle.txn_lang.specs.Keys.{Entry, found}
-use Rattle.world_machine.specs.Rows.{put_key, sorted_keys}
+use Rattle.world_rows.specs.Rows.{put_key, sorted_keys}
 use Rattle.world_rows.specs.Orders.{key_cmp}
 use Rattle.world_rows.specs.Values.{value_at, value_row, HasValues}
 use Rattle.world_rows.specs.declared.values.ValueTable.{ValueTable}

@@ -16,7 +16,7 @@ use Rattle.protocol.specs.World.Committed.{CommittedExec}
 use Rattle.protocol_plans.specs.Scripted.{Scripted}
 use Rattle.protocol_plans.specs.SerialOutcome.{first_map, entry_written, map_of}
 use Rattle.txn_lang.specs.Keys.{Entry, first_of, found, after_writes}
-use Rattle.world_machine.specs.Rows.{keys_of}
+use Rattle.world_rows.specs.Rows.{keys_of}
 use Rattle.world_rows.specs.Orders.{key_cmp}
 use Rattle.world_rows.specs.Values.{value_at, HasValues}
 use Rattle.world_rows.specs.declared.values.ValueTable.{ValueTable}

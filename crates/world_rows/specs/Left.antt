@@ -7,7 +7,7 @@ use Rattle.report.specs.declared.rows.Left.{Left}
 use Rattle.report.specs.declared.rows.Left.TheVariants.{Aborted, Unbegun}
 use Rattle.report.specs.declared.rows.LeftRow.{LeftRow}
 use Rattle.protocol.specs.World.Committed.{CommittedExec}
-use Rattle.world_machine.specs.Rows.{has_commit, left_by}
+use Rattle.world_rows.specs.Rows.{has_commit, left_by}
 use Rattle.world_rows.specs.declared.left.Progress.{Progress}
 use Rattle.world_rows.specs.declared.left.TxnName.{TxnName}
 

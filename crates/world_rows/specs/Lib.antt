@@ -1,3 +1,7 @@
+pub mod Machine
+pub mod Rows
+pub mod MachineLaws
+pub mod Lawfulness
 pub mod Orders
 pub mod Notes
 pub mod Outcome

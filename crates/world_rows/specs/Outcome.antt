@@ -8,7 +8,7 @@ use Rattle.protocol.specs.Words.{Exec, Content, Envelope}
 use Rattle.protocol.specs.declared.First2.{First2}
 use Rattle.protocol.specs.World.Committed.{CommittedExec}
 use Rattle.protocol_plans.specs.SerialOutcome.{first_map, map_of}
-use Rattle.world_machine.specs.Rows.{commit_row}
+use Rattle.world_rows.specs.Rows.{commit_row}
 use Rattle.world_rows.specs.Orders.{version_cmp, exec_cmp}
 use Rattle.world_rows.specs.Notes.{content_in}
 use Rattle.world_rows.specs.Values.{HasValues}

@@ -5,7 +5,7 @@ use Rattle.report.specs.declared.rows.Rows.{Rows}
 use Rattle.protocol.specs.World.State.{World, rules}
 use Rattle.protocol.specs.World.Committed.{CommittedExec}
 use Rattle.protocol_plans.specs.Scripted.{Scripted, plan_of}
-use Rattle.world_machine.specs.Rows.{commit_row, left_rows, value_rows}
+use Rattle.world_rows.specs.Rows.{commit_row, left_rows, value_rows}
 use Rattle.world_rows.specs.declared.left.Progress.{Progress}
 
 -- what client c tells

@@ -6,7 +6,7 @@ ghost use Rattle.protocol.specs.Lists.{upto};
 ghost use Rattle.protocol.specs.World.State.{World};
 ghost use Rattle.protocol.specs.World.Committed.{CommittedExec};
 ghost use Rattle.protocol_plans.specs.Scripted.{Scripted};
-ghost use Rattle.world_machine.specs.Rows.{left_rows as left_rows_of};
+ghost use Rattle.world_rows.specs.Rows.{left_rows as left_rows_of};
 ghost use Rattle.world_rows.specs.Left.{txn_cmp, AreDone, left_in, left_at};
 ghost use Rattle.world_rows.specs.Report.{AreProgress};
 

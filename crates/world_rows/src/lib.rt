@@ -1,7 +1,12 @@
-//! The rows of a world, from what was noted of it as envelopes were sent and tries began: its replicas may have dropped
-//! what they knew of an execution.
+//! The world of a plan as a machine that replays events, by definition; and the rows that are reported of such a world, by
+//! definition, and from what was noted of it as envelopes were sent and tries began: its replicas may have dropped what they
+//! knew of an execution.
 //!
-//! Read `specs/Notes` first: what was noted stands for the mail and the tries. `specs/Outcome` says what is gathered of the
+//! Read `specs/Machine`, `Rows`, `MachineLaws` and `Lawfulness` first. A history is a replay, its last event first
+//! (`proofs/HistoriesReplay`), and two ways to the same worlds make machines that answer alike (`SameWorlds`). The worlds of
+//! every plan are a lawful machine (`Lawful`), by what it takes for an event to be enabled (`Enabling`).
+//!
+//! Then read `specs/Notes`: what was noted stands for the mail and the tries. `specs/Outcome` says what is gathered of the
 //! committed executions (the values by `specs/Values`, the transactions by `specs/Left`), `specs/Report` what clients tell,
 //! and `specs/Laws` that Commit is told in the mail of just the committed executions (`proofs/CommitsAreTold`).
 //!
@@ -18,9 +23,21 @@ mod outcome;
 mod values;
 
 ghost use Rattle.world_rows.specs.Laws.{CommitsAreTold};
+ghost use Rattle.world_rows.specs.Lawfulness.{WorldsAreLawful};
+ghost use Rattle.world_rows.specs.MachineLaws.{HistoriesReplay};
 
 pub use left::Progress;
 pub use notes::Notes;
+
+/// The world after a history is the replay of its events in order.
+pub fn histories_replay()
+    ensures { HistoriesReplay }
+{}
+
+/// The worlds of each plan are a lawful machine.
+pub fn worlds_are_lawful()
+    ensures { WorldsAreLawful }
+{}
 
 /// An execution is committed just where a Decide of Commit of it is in the mail.
 pub fn commits_are_told()

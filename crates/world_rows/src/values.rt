@@ -8,7 +8,7 @@ ghost use Rattle.morty_base.specs.Names.{same_key};
 ghost use Rattle.protocol.specs.declared.First2.{First2 as FirstValue};
 ghost use Rattle.protocol_plans.specs.SerialOutcome.{first_map, entry_written};
 ghost use Rattle.txn_lang.specs.Keys.{Entry, found, after_writes};
-ghost use Rattle.world_machine.specs.Rows.{sorted_keys};
+ghost use Rattle.world_rows.specs.Rows.{sorted_keys};
 ghost use Rattle.world_rows.specs.Values.{value_at, value_row};
 
 use morty_base::{Key, List, NoMemory};

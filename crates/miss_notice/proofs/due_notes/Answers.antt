@@ -1,5 +1,5 @@
 use Rattle.std.proofs.Common.{◌∷◌, ◌∙◌, sym, subst}
-use Rattle.mv_record.specs.Records.{readers_of}
+use Rattle.mv_index.specs.Records.{readers_of}
 use Rattle.miss_notice.specs.Marks.{AreLeft}
 use Rattle.miss_notice.proofs.DueNotes.{due_of_readers, reads_above}
 use Rattle.miss_notice.proofs.NotesTold.{notes_left}

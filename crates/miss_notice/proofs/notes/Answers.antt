@@ -2,8 +2,8 @@ use Rattle.std.proofs.Common.{◌<◌, ◌≤◌, ◌++◌, ◌∷◌, [], ◌�
 use Rattle.std.specs.Prelude.{flat_map}
 use Rattle.std.proofs.lemmas.List.{take_more, take_all, flat_map_more}
 use Rattle.protocol.specs.Words.{Key}
-use Rattle.mv_record.specs.Records.{listed}
-use Rattle.mv_record.proofs.Told.{got}
+use Rattle.mv_index.specs.Records.{listed}
+use Rattle.mv_index.proofs.Told.{got}
 use Rattle.miss_notice.specs.Notes.{notes_by, notes_at}
 use Rattle.miss_notice.proofs.DueNotes.{due_listed}
 use Rattle.miss_notice.proofs.notes.Goals as goal

@@ -2,7 +2,7 @@ use Rattle.std.proofs.Common.{◌≡◌, List, map, take}
 use Rattle.std.specs.Prelude.{flat_map, ℕ}
 use Rattle.protocol.specs.declared.First2.{First2}
 use Rattle.protocol.specs.Replica.Taken.{Handled}
-use Rattle.mv_record.specs.Records.{StandsFor, WereTold, listed}
+use Rattle.mv_index.specs.Records.{StandsFor, WereTold, listed}
 use Rattle.miss_notice.specs.Envelope2.{sent_by}
 use Rattle.miss_notice.specs.Notes.{notes_by, notes_at}
 use Rattle.miss_notice.proofs.notes.Given as goal

@@ -4,7 +4,7 @@ use Rattle.std.specs.Option.{option_to_list}
 use Rattle.std.proofs.lemmas.List.{take_all}
 use Rattle.mv_index.specs.declared.reader_list.Reader.{Reader}
 use Rattle.mv_index.proofs.Keyed.{reads_from}
-use Rattle.mv_record.specs.Records.{low_of}
+use Rattle.mv_index.specs.Records.{low_of}
 use Rattle.miss_notice.specs.Envelope2.{sent_by}
 use Rattle.miss_notice.specs.Notes.{notes_by}
 use Rattle.miss_notice.proofs.DueNotes.{notes_next, pushed, reads_above, own_in, own_notes}

@@ -3,7 +3,7 @@ use Rattle.std.specs.Prelude.{filter, flat_map, ℕ}
 use Rattle.protocol.specs.declared.First2.{First2}
 use Rattle.protocol.specs.Replica.Taken.{Handled}
 use Rattle.mv_index.proofs.Keyed.{reads_from}
-use Rattle.mv_record.specs.Records.{StandsFor, WereTold, low_of}
+use Rattle.mv_index.specs.Records.{StandsFor, WereTold, low_of}
 use Rattle.miss_notice.specs.Envelope2.{sent_by}
 use Rattle.miss_notice.specs.Notes.{notes_by}
 use Rattle.miss_notice.proofs.notes_of.Given as goal

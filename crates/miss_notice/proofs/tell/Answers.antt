@@ -1,5 +1,5 @@
 use Rattle.std.proofs.Common.{◌∙◌, ap, sym, map}
-use Rattle.mv_record.specs.Records.{readers_of}
+use Rattle.mv_index.specs.Records.{readers_of}
 use Rattle.miss_notice.specs.Marks.{marked_by}
 use Rattle.miss_notice.proofs.NotesTold.{unmarked}
 use Rattle.miss_notice.proofs.tell.Goals as goal

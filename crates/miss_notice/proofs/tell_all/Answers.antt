@@ -1,5 +1,5 @@
 use Rattle.std.proofs.Common.{◌<◌, ◌≤◌, ◌∙◌, length, ap, arith}
-use Rattle.mv_record.specs.Records.{readers_of}
+use Rattle.mv_index.specs.Records.{readers_of}
 use Rattle.miss_notice.specs.declared.Envelope2.{Envelope2}
 use Rattle.miss_notice.specs.Marks.{mark_in}
 use Rattle.miss_notice.proofs.NotesTold.{left_next, left_none}

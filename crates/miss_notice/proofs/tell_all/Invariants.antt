@@ -1,7 +1,7 @@
 use Rattle.std.proofs.Common.{List, drop}
 use Rattle.protocol.specs.declared.First2.{First2}
 use Rattle.protocol.specs.Replica.Taken.{Handled}
-use Rattle.mv_record.specs.Records.{StandsFor, readers_of}
+use Rattle.mv_index.specs.Records.{StandsFor, readers_of}
 use Rattle.miss_notice.specs.Marks.{AreLeft}
 use Rattle.miss_notice.proofs.tell_all.Given as goal
 

@@ -5,11 +5,11 @@ use Rattle.protocol.specs.Replica.Held.{latest}
 use Rattle.protocol.specs.Replica.Says.{answer, refusal, note_of}
 use Rattle.mv_index.specs.ReaderList.{told_at}
 use Rattle.mv_index.proofs.Unchanged.{seen_same}
-use Rattle.mv_record.specs.Records.{StandsFor}
-use Rattle.mv_record.proofs.Reading.{read_told}
-use Rattle.mv_record.proofs.Unseen.{get_holds}
-use Rattle.mv_record.proofs.Taken.{taken, not_taken, takes_by_version}
-use Rattle.mv_record.proofs.VotesSame.{after_body}
+use Rattle.mv_index.specs.Records.{StandsFor}
+use Rattle.mv_index.proofs.Reading.{read_told}
+use Rattle.mv_index.proofs.Unseen.{get_holds}
+use Rattle.mv_index.proofs.Taken.{taken, not_taken, takes_by_version}
+use Rattle.mv_index.proofs.VotesSame.{after_body}
 use Rattle.read_path.proofs.on_get.Goals as goal
 
 pub returns-then-not-is_before-clause-answers : goal.returns-then-not-is_before-clause-answers

@@ -1,7 +1,7 @@
 use Rattle.std.proofs.Common.{◌∙◌, ap, sym, subst, true, false, refl}
 use Rattle.protocol.specs.Words.{before, Puts}
-use Rattle.mv_record.specs.Records.{StandsFor}
-use Rattle.mv_record.proofs.Taken.{not_taken, takes_by_version, put_stands}
+use Rattle.mv_index.specs.Records.{StandsFor}
+use Rattle.mv_index.proofs.Taken.{not_taken, takes_by_version, put_stands}
 use Rattle.read_path.proofs.on_puts.Goals as goal
 
 pub returns-then-is_before-clause-stands : goal.returns-then-is_before-clause-stands

@@ -1,4 +1,4 @@
-use Rattle.mv_record.specs.declared.clash.Clash.TheVariants.{Committed, Voted, Clear}
+use Rattle.mv_index.specs.declared.clash.Clash.TheVariants.{Committed, Voted, Clear}
 use Rattle.validate.proofs.Verdicts.{verdict_from}
 use Rattle.validate.proofs.verdict.Goals as goal
 

@@ -1,7 +1,7 @@
 use Rattle.std.proofs.Common.{◌∙◌, ap, sym}
 use Rattle.protocol.specs.Words.{Commit, Tentative, Final, Prepare}
 use Rattle.protocol.specs.Replica.Votes.{is_commit_vote}
-use Rattle.mv_record.proofs.Unseen.{stands_other}
+use Rattle.mv_index.proofs.Unseen.{stands_other}
 use Rattle.replica.proofs.ReplicaTurns.{not_voted, voted_now, other_unseen}
 use Rattle.replica.proofs.recording.record_vote.Goals as goal
 

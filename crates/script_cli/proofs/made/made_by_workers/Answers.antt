@@ -4,7 +4,7 @@ use Rattle.std.specs.Prelude.{nat_lt}
 use Rattle.std.proofs.lemmas.Bool.Decides.{nat_tests}
 use Rattle.morty_io.specs.Faults.{Rose}
 use Rattle.hub.proofs.Results.{if_ok}
-use Rattle.script_runs.specs.Runs.{IsRan}
+use Rattle.script_cli.specs.Runs.{IsRan}
 use Rattle.script_cli.specs.declared.words.Command.TheVariants.{Run}
 use Rattle.script_cli.specs.Due.{due_of, IsDue}
 use Rattle.script_cli.proofs.TaskLemmas.{to_run}

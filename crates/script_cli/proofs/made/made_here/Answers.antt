@@ -2,7 +2,7 @@
 use Rattle.std.proofs.Common.{Bool, map, sym, subst}
 use Rattle.morty_io.specs.Faults.{Rose}
 use Rattle.hub.proofs.Results.{if_ok}
-use Rattle.script_runs.specs.Runs.{IsRan}
+use Rattle.script_cli.specs.Runs.{IsRan}
 use Rattle.script_cli.specs.Due.{due_of, IsDue}
 use Rattle.script_cli.proofs.TaskLemmas.{to_run}
 use Rattle.script_cli.proofs.made.made_here.Goals as goal

@@ -1,6 +1,6 @@
 -- A world that stands ready is left to run, and what is due of its run is due for the script.
 use Rattle.std.proofs.Common.{map, subst}
-use Rattle.script_runs.specs.Runs.{IsPreparedOf}
+use Rattle.script_cli.specs.Runs.{IsPreparedOf}
 use Rattle.script_cli.specs.Due.{Ran}
 use Rattle.script_cli.proofs.made.of_setup_run.Goals as goal
 

@@ -6,7 +6,7 @@ use Rattle.wire.specs.Sendable.{IsNumbered}
 use Rattle.hub.proofs.Results.{if_ok}
 use Rattle.run_trace.specs.Trace.{trace_bytes}
 use Rattle.script.specs.Canonical.{canonical_script}
-use Rattle.script_runs.specs.Runs.{world_for}
+use Rattle.script_cli.specs.Runs.{world_for}
 use Rattle.world.specs.MachineLaws.{in_use}
 use Rattle.report.specs.Text.{report_of, brief_of}
 use Rattle.script_cli.specs.Words.{is_shared}

@@ -1,6 +1,6 @@
 -- What comes is taken by the stage of the execution.
 use Rattle.coordinator.specs.declared.memory.Stage.TheVariants as stage
-use Rattle.execution.specs.Execution.{is_pending}
+use Rattle.coordinator.specs.Execution.{is_pending}
 use Rattle.coordinator.specs.Memory.{accepts_of, choice_of}
 use Rattle.coordinator.proofs.EnvelopeLemmas.{comes_between, comes_while_prepared, comes_while_running, phase_is}
 use Rattle.coordinator.proofs.memory.Memory.comes.Goals as goal

@@ -1,7 +1,7 @@
 -- A read has another label, and then the execution may be ready.
 use Rattle.std.proofs.Common.{None, ap}
 use Rattle.protocol.specs.Client.Following.{with_answer}
-use Rattle.execution.specs.declared.execution.Execution.{Execution}
+use Rattle.coordinator.specs.declared.execution.Execution.{Execution}
 use Rattle.coordinator.specs.Memory.{current}
 use Rattle.coordinator.proofs.SegmentLemmas.{runs_bare}
 use Rattle.coordinator.proofs.FollowingLemmas.{next_bare, stands_followed}

@@ -1,7 +1,7 @@
 -- The attempt that begins is the one of the definitions.
 use Rattle.std.proofs.Common.{◌∙◌, sym, subst}
 use Rattle.protocol.specs.Client.Attempts.{go}
-use Rattle.execution.specs.Execution as execution
+use Rattle.coordinator.specs.Execution as execution
 use Rattle.coordinator.specs.Memory.{StandsFor, current}
 use Rattle.coordinator.specs.declared.memory.Memory.{Memory}
 use Rattle.coordinator.proofs.AttemptLemmas.{stands_again, stands_next}

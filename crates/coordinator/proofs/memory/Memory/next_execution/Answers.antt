@@ -8,7 +8,7 @@ use Rattle.protocol.specs.Lists.{one_when}
 use Rattle.protocol.specs.Client.State.{may_put}
 use Rattle.protocol.specs.Client.Attempts.{bumped, is_between}
 use Rattle.protocol.specs.Client.Deciding.{cut, next_execution, other_value, relabelled}
-use Rattle.execution.specs.Execution.{is_pending}
+use Rattle.coordinator.specs.Execution.{is_pending}
 use Rattle.coordinator.specs.Memory.{StandsFor, Takes, current, rerun_memory}
 use Rattle.coordinator.specs.declared.memory.Memory.{Memory}
 use Rattle.coordinator.proofs.DecidingLemmas.{next_kept, next_rewound, prepared_so, stands_relabelled, stands_rewound}

@@ -5,8 +5,8 @@ use Rattle.exec_log.specs.Log.{asked_by}
 use Rattle.protocol.specs.Client.State.{Turn}
 use Rattle.protocol.specs.Client.State.Phase.{Running}
 use Rattle.protocol.specs.Client.Attempts.{is_between, question}
-use Rattle.execution.specs.Execution as execution
-use Rattle.execution.specs.Execution.{is_pending}
+use Rattle.coordinator.specs.Execution as execution
+use Rattle.coordinator.specs.Execution.{is_pending}
 use Rattle.coordinator.specs.Memory.{Takes}
 use Rattle.coordinator.specs.declared.memory.Memory.{Memory}
 use Rattle.coordinator.specs.declared.memory.Stage.TheVariants as stage

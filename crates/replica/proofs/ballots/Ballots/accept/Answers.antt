@@ -3,7 +3,7 @@ use Rattle.std.specs.Prelude.{nat_le}
 use Rattle.std.specs.Option.{option_or}
 use Rattle.protocol.specs.Words.{Exec, same_exec, Finalize}
 use Rattle.view_cell.specs.Cell.{StandsFor as IsCellOf}
-use Rattle.mv_record.proofs.VotesSame.{after_body}
+use Rattle.mv_index.proofs.VotesSame.{after_body}
 use Rattle.replica.specs.Ballots.{ballot_at, blank}
 use Rattle.replica.specs.declared.ballots.Ballot.{Ballot}
 use Rattle.protocol.specs.Replica.Acceptor.{promised}

@@ -1,7 +1,7 @@
 use Rattle.std.proofs.Common.{◌≡◌, ◌∙◌, ap, sym, subst, cond, refl, Some}
 use Rattle.protocol.specs.Words.{Exec, same_exec, Ask}
 use Rattle.view_cell.specs.Cell.{StandsFor as IsCellOf}
-use Rattle.mv_record.proofs.VotesSame.{after_body}
+use Rattle.mv_index.proofs.VotesSame.{after_body}
 use Rattle.replica.specs.Ballots.{ballot_at, blank}
 use Rattle.replica.specs.declared.ballots.Ballot.{Ballot}
 use Rattle.replica.proofs.BallotTurns.{ballots_turn, ballots_same, known_ask, put_twice}

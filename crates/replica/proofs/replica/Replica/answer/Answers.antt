@@ -3,7 +3,7 @@ use Rattle.std.specs.Prelude.{map}
 use Rattle.std.specs.Option.{option_to_list}
 use Rattle.protocol.specs.Replica.Readers.{envelope_from, due}
 use Rattle.protocol.specs.Replica.Says.{answer}
-use Rattle.mv_record.proofs.Taken.{taken, not_taken}
+use Rattle.mv_index.proofs.Taken.{taken, not_taken}
 use Rattle.replica.specs.Replica.{Keeps}
 use Rattle.replica.proofs.ReplicaTurns.{says_taken, says_untaken}
 use Rattle.replica.proofs.replica.Replica.answer.Goals as goal

@@ -4,8 +4,8 @@ use Rattle.std.specs.Option.{option_to_list}
 use Rattle.protocol.specs.Words.{Get, Puts, Prepare, Finalize, Decide, Ask, Fence, Drops, Write}
 use Rattle.protocol.specs.Replica.Taken.{takes}
 use Rattle.protocol.specs.Replica.Says.{answer}
-use Rattle.mv_record.proofs.VotesSame.{after_body}
-use Rattle.replica.specs.Limits.{IsWithinLimits}
+use Rattle.mv_index.proofs.VotesSame.{after_body}
+use Rattle.protocol.specs.Replica.Limits.{IsWithinLimits}
 use Rattle.replica.specs.Replica.{Keeps}
 use Rattle.replica.proofs.ReplicaTurns.{taken_above, taken_content, unruled_untaken}
 use Rattle.replica.proofs.replica.Replica.follow.Goals as goal

@@ -1,7 +1,7 @@
 use Rattle.std.proofs.Common.{refl}
 use Rattle.protocol.specs.Words.{Ask}
 use Rattle.protocol.specs.Replica.Says.{answer}
-use Rattle.mv_record.proofs.Unseen.{stands_other}
+use Rattle.mv_index.proofs.Unseen.{stands_other}
 use Rattle.replica.proofs.ReplicaTurns.{keeps_with}
 use Rattle.replica.proofs.replica.Replica.on_ask.Goals as goal
 

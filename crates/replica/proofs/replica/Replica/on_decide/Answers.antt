@@ -1,6 +1,6 @@
 use Rattle.std.proofs.Common.{◌∙◌, sym, refl, true, false}
 use Rattle.protocol.specs.Words.{Decide}
-use Rattle.mv_record.proofs.Unseen.{stands_other}
+use Rattle.mv_index.proofs.Unseen.{stands_other}
 use Rattle.replica.proofs.ReplicaTurns.{keeps_with, decided_some, decided_none, ballots_again}
 use Rattle.replica.proofs.replica.Replica.on_decide.Goals as goal
 use Rattle.protocol.specs.Replica.Acceptor.{decided}

@@ -1,8 +1,8 @@
 use Rattle.std.proofs.Common.{ap, sym, subst, cond}
 use Rattle.protocol.specs.Words.{Drops}
 use Rattle.protocol.specs.Replica.Taken.{dropped, later}
-use Rattle.mv_record.specs.Records.{StandsFor as RecordsStandFor}
-use Rattle.mv_record.proofs.VotesSame.{after_body}
+use Rattle.mv_index.specs.Records.{StandsFor as RecordsStandFor}
+use Rattle.mv_index.proofs.VotesSame.{after_body}
 use Rattle.replica.specs.Replica.{Keeps}
 use Rattle.replica.proofs.replica.Replica.on_drop.Goals as goal
 

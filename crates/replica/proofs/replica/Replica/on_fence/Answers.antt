@@ -1,8 +1,8 @@
 use Rattle.std.proofs.Common.{◌∙◌, ap, sym, subst, refl}
 use Rattle.protocol.specs.Words.{Fence}
 use Rattle.protocol.specs.Replica.Taken.{dropped, later}
-use Rattle.mv_record.proofs.Unseen.{stands_other}
-use Rattle.mv_record.proofs.VotesSame.{after_body}
+use Rattle.mv_index.proofs.Unseen.{stands_other}
+use Rattle.mv_index.proofs.VotesSame.{after_body}
 use Rattle.replica.specs.Replica.{Keeps}
 use Rattle.replica.proofs.BallotTurns.{ballots_other}
 use Rattle.replica.proofs.replica.Replica.on_fence.Goals as goal

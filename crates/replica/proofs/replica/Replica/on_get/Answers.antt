@@ -1,8 +1,8 @@
 use Rattle.std.proofs.Common.{◌∙◌, ap, sym, subst, refl, cond, true, [], ◌∷◌}
 use Rattle.protocol.specs.Words.{Get}
 use Rattle.protocol.specs.Replica.Says.{answer, refusal}
-use Rattle.mv_record.specs.Records.{StandsFor as RecordsStandFor}
-use Rattle.mv_record.proofs.Taken.{taken, takes_by_version}
+use Rattle.mv_index.specs.Records.{StandsFor as RecordsStandFor}
+use Rattle.mv_index.proofs.Taken.{taken, takes_by_version}
 use Rattle.replica.proofs.BallotTurns.{ballots_other}
 use Rattle.replica.proofs.ReplicaTurns.{keeps_with}
 use Rattle.replica.proofs.replica.Replica.on_get.Goals as goal

@@ -1,7 +1,7 @@
 use Rattle.std.proofs.Common.{◌∙◌, sym, refl, true, false}
 use Rattle.std.specs.Prelude.{not}
 use Rattle.protocol.specs.Words.{Prepare}
-use Rattle.mv_record.proofs.Unseen.{stands_other}
+use Rattle.mv_index.proofs.Unseen.{stands_other}
 use Rattle.replica.proofs.ReplicaTurns.{keeps_with, answer_unvoted, answer_voted, unvoted_unseen, ballots_unvoted}
 use Rattle.replica.proofs.replica.Replica.on_prepare.Goals as goal
 

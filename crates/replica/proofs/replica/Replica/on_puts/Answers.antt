@@ -1,7 +1,7 @@
 use Rattle.std.proofs.Common.{sym, subst, refl, true}
 use Rattle.protocol.specs.Words.{Puts}
-use Rattle.mv_record.specs.Records.{StandsFor as RecordsStandFor}
-use Rattle.mv_record.proofs.Taken.{taken, takes_by_version}
+use Rattle.mv_index.specs.Records.{StandsFor as RecordsStandFor}
+use Rattle.mv_index.proofs.Taken.{taken, takes_by_version}
 use Rattle.replica.proofs.BallotTurns.{ballots_other}
 use Rattle.replica.proofs.ReplicaTurns.{keeps_with}
 use Rattle.replica.proofs.replica.Replica.on_puts.Goals as goal

@@ -1,7 +1,7 @@
 use Rattle.std.proofs.Common.{sym, ◌∙◌, subst}
 use Rattle.std.proofs.lemmas.Result.{IfOk-weaker}
 use Rattle.net_core.specs.Replay.{IsGiven}
-use Rattle.world_machine.specs.Machine.{machine_of}
+use Rattle.world_rows.specs.Machine.{machine_of}
 use Rattle.world.specs.Origin.{plan}
 use Rattle.world.specs.World.{Stands}
 use Rattle.world.specs.Jobs.{pending_of, IsDoneOf}

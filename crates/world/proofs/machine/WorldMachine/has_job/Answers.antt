@@ -1,6 +1,6 @@
 use Rattle.std.proofs.Common.{ap, sym, ◌∙◌}
 use Rattle.protocol.specs.Words.{Client}
-use Rattle.world_machine.specs.Machine.{is_pending}
+use Rattle.world_rows.specs.Machine.{is_pending}
 use Rattle.world.specs.Origin.{world_at}
 use Rattle.world.specs.MachineLaws.{pending_told}
 use Rattle.world.proofs.NodeSlots.{of_slot}

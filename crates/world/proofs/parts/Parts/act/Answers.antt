@@ -1,7 +1,7 @@
 use Rattle.std.proofs.Common.{◌≡◌, ◌++◌, ap, ◌∙◌}
 use Rattle.std.specs.Prelude.{is_some}
 use Rattle.protocol.specs.Words.{Picked}
-use Rattle.world_laws.proofs.Enabling.{move_enabled}
+use Rattle.world_rows.proofs.Enabling.{move_enabled}
 use Rattle.world.proofs.Happening.{has, doing, itself_can}
 use Rattle.world.proofs.Keeping.{itself_keeps}
 use Rattle.world.proofs.WorldLemmas.{node_moved}

@@ -4,7 +4,7 @@ use Rattle.protocol.specs.Words.{Client, Picked, Ran}
 use Rattle.protocol.specs.Client.Step.Input.{Runs}
 use Rattle.protocol.specs.World.State.{is_live}
 use Rattle.protocol.specs.World.Events.{client_input, enabled, pick_moves}
-use Rattle.world_laws.proofs.Enabling.{enabled_when, ran_when}
+use Rattle.world_rows.proofs.Enabling.{enabled_when, ran_when}
 use Rattle.world.proofs.parts.Parts.can.Goals as goal
 
 pub returns-then-is_live : goal.returns-then-is_live

@@ -2,7 +2,7 @@ use Rattle.std.proofs.Common.{◌≡◌, ap, sym, ◌∙◌}
 use Rattle.std.specs.Prelude.{is_some}
 use Rattle.protocol.specs.World.Events.{pick_moves}
 use Rattle.protocol.specs.World.Committed.{nodes as nodes_of}
-use Rattle.world_laws.proofs.Enabling.{deliver_when, stop_when, others_when}
+use Rattle.world_rows.proofs.Enabling.{deliver_when, stop_when, others_when}
 use Rattle.world.proofs.parts.Parts.can_pick.Goals as goal
 
 pub returns-in-Deliver : goal.returns-in-Deliver

@@ -8,7 +8,7 @@ use Rattle.protocol.proofs.TestLemmas.{true_false}
 use Rattle.law_frames.proofs.SendableIsWithinLimits.{sendable_is_within_limits}
 use Rattle.menus.specs.Shown.{is_to}
 use Rattle.menus.specs.Slots.{has_node, nodes_of as slots_of}
-use Rattle.world_laws.proofs.Enabling.{is_delivered, move_enabled}
+use Rattle.world_rows.proofs.Enabling.{is_delivered, move_enabled}
 use Rattle.world.specs.World.{IsMoved}
 use Rattle.world.proofs.Happening.{has, move, doing, some_same}
 use Rattle.world.proofs.Keeping.{receives_keeps}

@@ -1,9 +1,9 @@
 use Rattle.std.proofs.Common.{◌≡◌, ◌++◌, Some, None, sym, ap, ◌∙◌, subst}
 use Rattle.std.specs.Prelude.{is_some}
 use Rattle.protocol.specs.Words.{Client, Go, Picked}
-use Rattle.nodes.proofs.NodesLemmas.{has_is}
+use Rattle.world.specs.NodeJobs.{has_is}
 use Rattle.coordinator.specs.declared.memory.Attempt.{Attempt}
-use Rattle.world_laws.proofs.Enabling.{move_enabled}
+use Rattle.world_rows.proofs.Enabling.{move_enabled}
 use Rattle.world_rows.specs.Notes.{AreNotes, IsBegun}
 use Rattle.world.proofs.Begun.{go_begins}
 use Rattle.world.proofs.Happening.{has, there, move, doing, go_is, last_is, none_same, some_same}

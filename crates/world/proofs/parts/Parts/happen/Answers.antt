@@ -5,7 +5,7 @@ use Rattle.protocol.specs.Lists.{IsIn}
 use Rattle.protocol.specs.World.State.{mail_limit}
 use Rattle.protocol.specs.World.Events.{enabled}
 use Rattle.wire.specs.Sendable.{MaySend}
-use Rattle.world_laws.proofs.Enabling.{some_of}
+use Rattle.world_rows.proofs.Enabling.{some_of}
 use Rattle.world.specs.World.{IsWorld, with_sent, counted}
 use Rattle.world.proofs.Happening.{move, moves}
 use Rattle.world.proofs.Keeping.{moved_after}

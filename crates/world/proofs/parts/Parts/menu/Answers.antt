@@ -1,5 +1,5 @@
 use Rattle.protocol.specs.World.Committed.{nodes as nodes_of}
-use Rattle.world_machine.specs.Machine.{menu_in}
+use Rattle.world_rows.specs.Machine.{menu_in}
 use Rattle.world.proofs.parts.Parts.menu.Goals as goal
 
 pub returns : goal.returns

@@ -4,8 +4,8 @@ use Rattle.std.specs.List.{slice_get}
 use Rattle.coordinator.specs.declared.memory.Rules.{Rules}
 use Rattle.coordinator.specs.declared.memory.Txn2.{Txn2}
 use Rattle.coordinator.specs.Memory.{IsWithinLimits}
-use Rattle.nodes.specs.Clients.{Loads}
-use Rattle.nodes.specs.Nodes.{IsSetupOf}
+use Rattle.world.specs.Clients.{Loads}
+use Rattle.world.specs.Nodes.{IsSetupOf}
 use Rattle.protocol.specs.declared.First2.{First2}
 use Rattle.protocol.specs.World.State.{first_world}
 use Rattle.menus.specs.Laws.{counts_in}

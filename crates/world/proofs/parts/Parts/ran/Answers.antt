@@ -2,7 +2,7 @@ use Rattle.std.proofs.Common.{◌≡◌, ◌++◌, sym, ap, ◌∙◌}
 use Rattle.std.specs.Prelude.{slice_get}
 use Rattle.protocol.specs.Words.{Ran}
 use Rattle.protocol.specs.Client.Step.Input.{Runs}
-use Rattle.world_laws.proofs.Enabling.{move_enabled}
+use Rattle.world_rows.proofs.Enabling.{move_enabled}
 use Rattle.world.proofs.Happening.{has}
 use Rattle.world.proofs.Keeping.{client_keeps}
 use Rattle.world.proofs.WorldLemmas.{node_moved}

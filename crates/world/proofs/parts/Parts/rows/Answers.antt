@@ -4,7 +4,7 @@ use Rattle.std.specs.Prelude.{IfOk}
 use Rattle.std.proofs.lemmas.Result.{IfOk-at_ok}
 use Rattle.protocol.specs.World.State.{Plan}
 use Rattle.protocol.specs.World.Committed.{nodes}
-use Rattle.world_machine.specs.Rows.{rows_of}
+use Rattle.world_rows.specs.Rows.{rows_of}
 use Rattle.world_rows.specs.Report.{AreProgress}
 use Rattle.world.proofs.parts.Parts.rows.Goals as goal
 

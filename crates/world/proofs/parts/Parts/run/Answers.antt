@@ -4,7 +4,7 @@ use Rattle.continuation.specs.Job.{FitsCodes}
 use Rattle.coordinator.specs.Memory.{codes_of}
 use Rattle.protocol.specs.Words.{Ran}
 use Rattle.protocol.proofs.TestLemmas.{true_false}
-use Rattle.world_laws.proofs.Enabling.{ran_when}
+use Rattle.world_rows.proofs.Enabling.{ran_when}
 use Rattle.world.proofs.Happening.{has, doing}
 use Rattle.world.proofs.parts.Parts.run.Goals as goal
 

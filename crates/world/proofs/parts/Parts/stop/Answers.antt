@@ -4,7 +4,7 @@ use Rattle.protocol.specs.Words.{Picked, Stop}
 use Rattle.protocol.specs.World.Committed.{nodes as nodes_of}
 use Rattle.protocol.proofs.TestLemmas.{true_false}
 use Rattle.menus.specs.Slots.{has_node, nodes_of as slots_of}
-use Rattle.world_laws.proofs.Enabling.{move_enabled}
+use Rattle.world_rows.proofs.Enabling.{move_enabled}
 use Rattle.world.specs.World.{IsMoved}
 use Rattle.world.proofs.Happening.{has, stop_is}
 use Rattle.world.proofs.NodeSlots.{at_slot, has_slot}

@@ -1,6 +1,6 @@
 use Rattle.std.proofs.Common.{ap, sym, ◌∙◌}
 use Rattle.protocol.specs.World.Committed.{nodes as nodes_of}
-use Rattle.world_machine.specs.Machine.{stuck_for}
+use Rattle.world_rows.specs.Machine.{stuck_for}
 use Rattle.world.proofs.parts.Parts.stuck.Goals as goal
 
 pub returns-in-Warden : goal.returns-in-Warden

@@ -1,6 +1,6 @@
 use Rattle.std.proofs.Common.{Some, ap, sym, ◌∙◌}
 use Rattle.protocol.specs.Words.{NodeId}
-use Rattle.world_machine.specs.Machine.{menu_in}
+use Rattle.world_rows.specs.Machine.{menu_in}
 use Rattle.world.specs.Origin.{plan, loads, world_at}
 use Rattle.world.proofs.NodeSlots.{of_slot}
 use Rattle.world.proofs.world.World.shown.Goals as goal

@@ -6,7 +6,7 @@ use Rattle.protocol.specs.Words.{Write}
 use Rattle.report.specs.declared.rows.CommitRow.{CommitRow}
 use Rattle.protocol_plans.specs.SerialOutcome.{first_map, map_of, entry_written}
 use Rattle.txn_lang.specs.Keys.{Entry, after_writes}
-use Rattle.world_machine.specs.Rows.{commit_row}
+use Rattle.world_rows.specs.Rows.{commit_row}
 use Rattle.world_rows.specs.Outcome.{committed_of}
 use Rattle.world_rows.specs.Values.{HasValues}
 use Rattle.world_rows.proofs.LeftLemmas.{done_more}

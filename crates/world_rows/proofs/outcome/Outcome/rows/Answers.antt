@@ -1,6 +1,6 @@
 -- The rows by what was gathered.
 use Rattle.protocol_plans.specs.SerialOutcome.{first_map, map_of}
-use Rattle.world_machine.specs.Rows.{keys_of}
+use Rattle.world_rows.specs.Rows.{keys_of}
 use Rattle.world_rows.proofs.ValuesLemmas.{is_valued}
 use Rattle.world_rows.proofs.outcome.Outcome.rows.Goals as goal
 

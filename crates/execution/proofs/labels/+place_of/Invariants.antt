@@ -1,6 +1,0 @@
--- The reads that are left grow fewer.
-use Rattle.std.proofs.Common.{length}
-use Rattle.execution.proofs.labels.+place_of.Given as goal
-
-abbrev pub decreases-place_of : goal.decreases-place_of
-decreases-place_of l = length l.reads.now

@@ -1,4 +1,0 @@
-pub mod Clash
-pub mod Meanings
-pub mod Records
-pub mod Unseen

@@ -1,4 +1,0 @@
-use Rattle.nodes.proofs.nodes.Nodes.current.Goals as goal
-
-pub returns : goal.returns
-returns c = λ l w are. c.current.ensures l w.client are.clients

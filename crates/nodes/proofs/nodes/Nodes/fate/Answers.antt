@@ -1,4 +1,0 @@
-use Rattle.nodes.proofs.nodes.Nodes.fate.Goals as goal
-
-pub returns : goal.returns
-returns c = λ l w are. c.fate.ensures l w.client are.clients

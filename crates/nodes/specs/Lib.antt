@@ -1,4 +1,0 @@
-pub mod Clients
-pub mod Replicas
-pub mod Wardens
-pub mod Nodes

@@ -1,3 +1,0 @@
-pub mod Enabling
-pub mod Lawful
-pub mod NodeJobs

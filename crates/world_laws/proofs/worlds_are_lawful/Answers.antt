@@ -1,5 +1,0 @@
-use Rattle.world_laws.proofs.Lawful.{machines_are_lawful}
-use Rattle.world_laws.proofs.worlds_are_lawful.Goals as goal
-
-pub returns : goal.returns
-returns c = machines_are_lawful

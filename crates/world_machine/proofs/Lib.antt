@@ -1,2 +1,0 @@
-pub mod HistoriesReplay
-pub mod SameWorlds

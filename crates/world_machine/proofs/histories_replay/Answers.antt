@@ -1,5 +1,0 @@
-use Rattle.world_machine.proofs.HistoriesReplay as proved
-use Rattle.world_machine.proofs.histories_replay.Goals as goal
-
-pub returns : goal.returns
-returns c = proved.histories_replay
